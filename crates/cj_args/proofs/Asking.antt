@@ -6,7 +6,7 @@ use Rattle.std.specs.declared.option.Option.TheVariants.{None, Some}
 use Rattle.std.specs.Str.{bytes_eq}
 use Rattle.std.proofs.lemmas.Option.{some_pair_parts}
 use Rattle.std.proofs.lemmas.Slice.Eq.{bytes_eq-Decides}
-use Rattle.cj_args.specs.Words.{names_file, word_of, file_of, Says, Asks}
+use Rattle.cj_args.specs.Words.{names_file, word_of, file_of, Says, AsksCommand}
 use Rattle.cj_args.specs.Proving.{next_word, only_conf, over_file, as_command, workload, command_of, is_only, or_help, asked_of_verb, asked_of_program, verb_of, by_verb, asked_of, of_verb, command_in}
 use Rattle.cj_args.specs.declared.asked.Verb.{Verb}
 use Rattle.cj_args.specs.declared.asked.Verb.TheVariants as verb
@@ -35,10 +35,10 @@ verb_is word =
     (pick (λ v. word ≡ word_of v) (bytes_eq word (codes "log")) verb.Log _ (same_word word (codes "log"))
     (pick (λ v. word ≡ word_of v) (bytes_eq word (codes "gen")) verb.Gen None (same_word word (codes "gen")) tt)))
 
-program_is : (words : List (List ℕ)) → IfSome (asked_of_program words) (Asks words)
+program_is : (words : List (List ℕ)) → IfSome (asked_of_program words) (AsksCommand words)
 program_is words =
-    pick (Asks words) (is_only (codes "--help") words) (asked.Help topic.Program) _ (only_is (codes "--help") words)
-    (pick (Asks words) (is_only (codes "--version") words) asked.Version None (only_is (codes "--version") words) tt)
+    pick (AsksCommand words) (is_only (codes "--help") words) (asked.Help topic.Program) _ (only_is (codes "--help") words)
+    (pick (AsksCommand words) (is_only (codes "--version") words) asked.Version None (only_is (codes "--version") words) tt)
 
 conf_is : (words : List (List ℕ)) → IfSome (only_conf words) (λ conf. (words ≡ conf ∷ []) × (names_file conf ≡ true))
 conf_is [] = tt
@@ -62,15 +62,15 @@ command_is verb.Script rest = over_is verb.Script rest (only_conf rest) (conf_is
 command_is verb.Log rest = over_is verb.Log rest (only_conf rest) (conf_is rest)
 command_is verb.Gen rest = gen_is rest (workload rest) (workload_is rest)
 
-help_is : (v : Verb) (rest : List (List ℕ)) (o : Option Command) → IfSome o (Says (word_of v ∷ rest)) → IfSome (or_help v rest o) (Asks (word_of v ∷ rest))
-help_is v rest None h = pick (Asks (word_of v ∷ rest)) (is_only (codes "--help") rest) (asked.Help (topic.Command v)) None (λ e. ap (λ (z : List (List ℕ)). word_of v ∷ z) (only_is (codes "--help") rest e)) tt
+help_is : (v : Verb) (rest : List (List ℕ)) (o : Option Command) → IfSome o (Says (word_of v ∷ rest)) → IfSome (or_help v rest o) (AsksCommand (word_of v ∷ rest))
+help_is v rest None h = pick (AsksCommand (word_of v ∷ rest)) (is_only (codes "--help") rest) (asked.Help (topic.Command v)) None (λ e. ap (λ (z : List (List ℕ)). word_of v ∷ z) (only_is (codes "--help") rest e)) tt
 help_is v rest (Some c) h = h
 
-by_verb_is : (word : List ℕ) (rest : List (List ℕ)) (o : Option Verb) → IfSome o (λ v. word ≡ word_of v) → IfSome (by_verb (word ∷ rest) rest o) (Asks (word ∷ rest))
+by_verb_is : (word : List ℕ) (rest : List (List ℕ)) (o : Option Verb) → IfSome o (λ v. word ≡ word_of v) → IfSome (by_verb (word ∷ rest) rest o) (AsksCommand (word ∷ rest))
 by_verb_is word rest None h = program_is (word ∷ rest)
-by_verb_is word rest (Some v) h = subst (λ (w : List ℕ). IfSome (asked_of_verb v rest) (Asks (w ∷ rest))) (sym h) (help_is v rest (command_of v rest) (command_is v rest))
+by_verb_is word rest (Some v) h = subst (λ (w : List ℕ). IfSome (asked_of_verb v rest) (AsksCommand (w ∷ rest))) (sym h) (help_is v rest (command_of v rest) (command_is v rest))
 
-pub asked_is : (words : List (List ℕ)) → IfSome (asked_of words) (Asks words)
+pub asked_is : (words : List (List ℕ)) → IfSome (asked_of words) (AsksCommand words)
 asked_is [] = tt
 asked_is (word ∷ rest) = by_verb_is word rest (verb_of word) (verb_is word)
 
@@ -93,7 +93,7 @@ command_said (first ∷ behind) rest word v next verb some =
 at_words : (words said : List (List ℕ)) (a : Asked) → words ≡ said → asked_of said ≡ Some a → asked_of words ≡ Some a
 at_words words said a e h = ap asked_of e ∙ h
 
-pub asked_read : (words : List (List ℕ)) (a : Asked) → Asks words a → asked_of words ≡ Some a
+pub asked_read : (words : List (List ℕ)) (a : Asked) → AsksCommand words a → asked_of words ≡ Some a
 asked_read words (asked.Command (command.Pipe conf)) h = at_words words _ _ h.0 (rw h.1 refl)
 asked_read words (asked.Command (command.Script conf)) h = at_words words _ _ h.0 (rw h.1 refl)
 asked_read words (asked.Command (command.Log conf)) h = at_words words _ _ h.0 (rw h.1 refl)

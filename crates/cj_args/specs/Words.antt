@@ -74,8 +74,8 @@ file_of (command.Log conf) = conf
 file_of (command.Gen conf seed count) = conf
 
 -- what the words ask for
-abbrev pub Asks : List (List ℕ) → Asked → Type 0
-Asks words (asked.Command c) = Says words c
-Asks words (asked.Help topic.Program) = words ≡ codes "--help" ∷ []
-Asks words (asked.Help (topic.Command v)) = words ≡ word_of v ∷ codes "--help" ∷ []
-Asks words asked.Version = words ≡ codes "--version" ∷ []
+abbrev pub AsksCommand : List (List ℕ) → Asked → Type 0
+AsksCommand words (asked.Command c) = Says words c
+AsksCommand words (asked.Help topic.Program) = words ≡ codes "--help" ∷ []
+AsksCommand words (asked.Help (topic.Command v)) = words ≡ word_of v ∷ codes "--help" ∷ []
+AsksCommand words asked.Version = words ≡ codes "--version" ∷ []

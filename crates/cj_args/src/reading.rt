@@ -1,7 +1,7 @@
 //! The words, read.
 
 ghost use Rattle.std.specs.Prelude.{◌≡◌, ◌↔◌, map, option_copied, option_map, string_bytes, IfErr, IfOk, IfSome, IsNone, IsSome};
-ghost use Rattle.cj_args.specs.Words.{Asks, Says, file_of};
+ghost use Rattle.cj_args.specs.Words.{AsksCommand, Says, file_of};
 ghost use Rattle.cj_args.specs.Proving as reading;
 ghost use Rattle.cj_args.specs.declared.asked.Asked.{Asked};
 ghost use Rattle.cj_args.specs.declared.asked.Command.{Command};
@@ -143,7 +143,7 @@ fn asked_of(alloc: Global, words: &[String]) -> Result<Option<Asked>, NoMemory>
 /// None answers every list of words that asks for nothing. Want of memory is the one error, and comes
 /// only where the words are those of a command.
 pub fn read(alloc: Global, words: &[String]) -> Result<Option<Asked>, NoMemory>
-    ensures found { IfOk result (λ found. (asked : Asked) → (found ≡ Some asked) ↔ Asks (map string_bytes words.now) asked) }
+    ensures found { IfOk result (λ found. (asked : Asked) → (found ≡ Some asked) ↔ AsksCommand (map string_bytes words.now) asked) }
     ensures memory { IfErr result (λ _. (command : Command) × Says (map string_bytes words.now) command) }
 {
     asked_of(alloc, words)

@@ -1,7 +1,7 @@
 -- The names that most proofs of this crate cite, passed on from one place. Declares nothing.
 pub use Rattle.cj_auth.specs.Admission.{Register, admits}
 pub use Rattle.cj_auth.specs.Digests.{is_digest}
-pub use Rattle.cj_auth.specs.Kept.{HasKey, IsUserName, accounts_of}
+pub use Rattle.cj_auth.specs.Kept.{HasKey, IsUserName, kept_accounts}
 pub use Rattle.cj_auth.specs.Refusals.{refusal_of_accounts}
 pub use Rattle.cj_auth.specs.declared.credentials.Credential.{Credential}
 pub use Rattle.cj_auth.specs.declared.error.AuthError.TheVariants.{BadDigest, LoginCount, Twice}

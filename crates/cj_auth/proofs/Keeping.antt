@@ -8,7 +8,7 @@ use Rattle.std.proofs.lemmas.Bool.{and_parts, cases_Bool, eqb-true}
 use Rattle.std.proofs.lemmas.Slice.Eq.{bytes_eq-Decides}
 use Rattle.std.proofs.lemmas.List.Elements.{All-cons, All-head, All-nil, All-tail}
 use Rattle.std.proofs.lemmas.List.{append_assoc, map-append}
-use Rattle.cj_auth.proofs.Common.{Account, All, BadDigest, Credential, HasKey, LoginCount, Twice, accounts_of, admits, bytes_eq, find, list_any, refusal_of_accounts, sha256, slice_index_or}
+use Rattle.cj_auth.proofs.Common.{Account, All, BadDigest, Credential, HasKey, LoginCount, Twice, kept_accounts, admits, bytes_eq, find, list_any, refusal_of_accounts, sha256, slice_index_or}
 use Rattle.cj_model.specs.Cluster.Accounts.{has_logins, is_account_of, login_of, repeated_user, user_where}
 use Rattle.cj_auth.specs.Digests.{is_digest, reads_as, spells}
 
@@ -50,24 +50,24 @@ abbrev account_of : Credential → Account
 account_of credential = credential.account
 
 -- what passes as accounts passes as credentials
-pub all_credentials : (P : Account → Type 0) (credentials : List Credential) → All P (accounts_of credentials) → All (λ (credential : Credential). P credential.account) credentials
+pub all_credentials : (P : Account → Type 0) (credentials : List Credential) → All P (kept_accounts credentials) → All (λ (credential : Credential). P credential.account) credentials
 all_credentials P [] h = All-nil (λ (credential : Credential). P credential.account)
 all_credentials P (c ∷ credentials) h =
-    All-cons (λ (credential : Credential). P credential.account) c credentials (All-head P c.account (accounts_of credentials) h)
-    (all_credentials P credentials (All-tail P c.account (accounts_of credentials) h))
+    All-cons (λ (credential : Credential). P credential.account) c credentials (All-head P c.account (kept_accounts credentials) h)
+    (all_credentials P credentials (All-tail P c.account (kept_accounts credentials) h))
 
 -- with one more of the accounts that are left
-pub one_more : (made : List Credential) (credential : Credential) (account : Account) (rest whole : List Account) → credential.account ≡ account → accounts_of made ++ account ∷ rest ≡ whole → accounts_of (made ++ credential ∷ []) ++ rest ≡ whole
+pub one_more : (made : List Credential) (credential : Credential) (account : Account) (rest whole : List Account) → credential.account ≡ account → kept_accounts made ++ account ∷ rest ≡ whole → kept_accounts (made ++ credential ∷ []) ++ rest ≡ whole
 one_more made credential account rest whole is h =
     ap (λ (accounts : List Account). accounts ++ rest) (map-append account_of made (credential ∷ []))
-    ∙ append_assoc (accounts_of made) (credential.account ∷ []) rest
-    ∙ ap (λ (a : Account). accounts_of made ++ a ∷ rest) is
+    ∙ append_assoc (kept_accounts made) (credential.account ∷ []) rest
+    ∙ ap (λ (a : Account). kept_accounts made ++ a ∷ rest) is
     ∙ h
 
 -- ---- found among them
 
 -- the key and the digest's digits say the same
-pub same_admitted : (credentials : List Credential) (user password : List ℕ) → All HasKey credentials → list_any (λ (credential : Credential). is_account_of user credential.account && bytes_eq credential.key (sha256 password)) credentials ≡ admits (accounts_of credentials) user password
+pub same_admitted : (credentials : List Credential) (user password : List ℕ) → All HasKey credentials → list_any (λ (credential : Credential). is_account_of user credential.account && bytes_eq credential.key (sha256 password)) credentials ≡ admits (kept_accounts credentials) user password
 same_admitted [] user password keys = refl
 same_admitted (c ∷ credentials) user password keys =
     ap (λ b. (is_account_of user c.account && b) || list_any (λ (credential : Credential). is_account_of user credential.account && bytes_eq credential.key (sha256 password)) credentials)
@@ -88,13 +88,13 @@ pub on_true : (b : Bool) (P : Type 0) → (b ≡ true → P) → OnTrue b P
 on_true true P f = f refl
 on_true false P f = tt
 
-pub same_login : (credentials : List Credential) (user : List ℕ) (b : ℕ) → login_of (accounts_of credentials) user b ≡ option_map_or (λ (credential : Credential). slice_index_or credential.account.logins b []) (find (λ (credential : Credential). is_account_of user credential.account) credentials) []
+pub same_login : (credentials : List Credential) (user : List ℕ) (b : ℕ) → login_of (kept_accounts credentials) user b ≡ option_map_or (λ (credential : Credential). slice_index_or credential.account.logins b []) (find (λ (credential : Credential). is_account_of user credential.account) credentials) []
 same_login [] user b = refl
 same_login (c ∷ credentials) user b =
     on_bool (is_account_of user c.account)
-    (λ t. ap (λ o. option_map_or (λ (account : Account). slice_index_or account.logins b []) (cond o (Some c.account) (find (is_account_of user) (accounts_of credentials))) []) t
+    (λ t. ap (λ o. option_map_or (λ (account : Account). slice_index_or account.logins b []) (cond o (Some c.account) (find (is_account_of user) (kept_accounts credentials))) []) t
     ∙ sym (ap (λ o. option_map_or (λ (credential : Credential). slice_index_or credential.account.logins b []) (cond o (Some c) (find (λ (credential : Credential). is_account_of user credential.account) credentials)) []) t))
-    (λ f. ap (λ o. option_map_or (λ (account : Account). slice_index_or account.logins b []) (cond o (Some c.account) (find (is_account_of user) (accounts_of credentials))) []) f
+    (λ f. ap (λ o. option_map_or (λ (account : Account). slice_index_or account.logins b []) (cond o (Some c.account) (find (is_account_of user) (kept_accounts credentials))) []) f
     ∙ same_login credentials user b
     ∙ sym (ap (λ o. option_map_or (λ (credential : Credential). slice_index_or credential.account.logins b []) (cond o (Some c) (find (λ (credential : Credential). is_account_of user credential.account) credentials)) []) f))
 
@@ -114,10 +114,10 @@ module _ (credentials : List Credential) (user : List ℕ) (b : ℕ) where
   login_in o = option_map_or (λ (credential : Credential). slice_index_or credential.account.logins b []) o []
 
   -- the login of the credential that is found
-  pub login_found : (credential : Credential) → Some credential ≡ found → slice_index_or credential.account.logins b [] ≡ login_of (accounts_of credentials) user b
+  pub login_found : (credential : Credential) → Some credential ≡ found → slice_index_or credential.account.logins b [] ≡ login_of (kept_accounts credentials) user b
   login_found credential is = ap login_in is ∙ sym (same_login credentials user b)
 
-  pub login_missing : None ≡ found → [] ≡ login_of (accounts_of credentials) user b
+  pub login_missing : None ≡ found → [] ≡ login_of (kept_accounts credentials) user b
   login_missing is = ap login_in is ∙ sym (same_login credentials user b)
 
   -- it has a login for each backend where all have

@@ -8,8 +8,8 @@ use Rattle.cj_model.specs.declared.limits.TheConstants.{USER_LIMIT}
 use Rattle.cj_model.specs.Sql.Names.{IsText}
 use Rattle.cj_auth.specs.declared.credentials.Credential.{Credential}
 
-abbrev pub accounts_of : List Credential → List Account
-accounts_of credentials = map (λ (credential : Credential). credential.account) credentials
+abbrev pub kept_accounts : List Credential → List Account
+kept_accounts credentials = map (λ (credential : Credential). credential.account) credentials
 
 -- the key is what the digest spells
 abbrev pub HasKey : Credential → Type 0

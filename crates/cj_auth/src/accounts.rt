@@ -31,9 +31,9 @@ impl Model for Accounts {
 
     ghost Value = { Register };
 
-    ghost use Rattle.cj_auth.specs.Kept.{AreKeptAccounts, accounts_of};
+    ghost use Rattle.cj_auth.specs.Kept.{AreKeptAccounts, kept_accounts};
 
-    ghost view = { λ a. record { accounts = accounts_of a.credentials; backends = a.backends } };
+    ghost view = { λ a. record { accounts = kept_accounts a.credentials; backends = a.backends } };
 
     ghost invariant = { λ a. AreKeptAccounts a.credentials a.backends a.empty };
 }

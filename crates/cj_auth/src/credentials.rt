@@ -5,7 +5,7 @@ ghost use Rattle.std.specs.List.{list_any};
 ghost use Rattle.std.specs.Str.{bytes_eq};
 ghost use Rattle.cj_model.specs.Cluster.Accounts.{HasShortUsers, is_account_of};
 ghost use Rattle.cj_auth.specs.Digests.{is_digest};
-ghost use Rattle.cj_auth.specs.Kept.{HasKey, IsUserName, accounts_of};
+ghost use Rattle.cj_auth.specs.Kept.{HasKey, IsUserName, kept_accounts};
 
 use crate::digests::{is_same_key, key_of};
 use cj_model::{Account, AccountRows, Duplicate, ListOf, NoMemory, USER_LIMIT};
@@ -45,7 +45,7 @@ fn with_key(account: Account) -> Credential
 pub fn with_keys(alloc: Global, accounts: AccountRows) -> Result<ListOf<Credential>, NoMemory>
     requires digests { All (λ account. is_digest account.digest ≡ true) accounts }
     requires users { HasShortUsers accounts }
-    ensures accounts { IfOk result (λ made. accounts_of made ≡ accounts) }
+    ensures accounts { IfOk result (λ made. kept_accounts made ≡ accounts) }
     ensures keys { IfOk result (λ made. All HasKey made) }
     ensures users { IfOk result (λ made. All (λ credential. IsUserName credential.account.user) made) }
 {

@@ -19,7 +19,7 @@ pub use Rattle.cj_book.proofs.Starting.{Begins, items_refused}
 pub use Rattle.cj_book.proofs.TransactionSteps.{concerns_tx, numbers_after, orphan_found, orphan_none}
 pub use Rattle.cj_book.proofs.Unasked.{gate_refuses, not_ok, wanting}
 pub use Rattle.cj_book.proofs.Written.{none_written, put_has, written_more}
-pub use Rattle.cj_book.specs.Lists.{new_session, new_tx}
+pub use Rattle.cj_book.specs.Lists.{book_session, new_tx}
 pub use Rattle.cj_book.specs.declared.counter.Counter.{Counter}
 pub use Rattle.cj_book.specs.declared.error.StartError.{StartError}
 pub use Rattle.cj_cluster.proofs.FreshAnswers.{by_tables}

@@ -1,7 +1,7 @@
 -- What follows from a history with one more event.
 use Rattle.std.proofs.Common.{◌≡◌, ◌≢◌, inl, inr, ℕ, ◌+◌, ◌-◌, ◌*◌, ◌^◌, ◌<◌, ◌≤◌, ◌==◌, ◌&&◌, not, Bool, true, false, List, [], ◌∷◌, ◌++◌, length, map, Option, None, Some, is_some, bit_and, refl, ap, sym, ◌∙◌, subst, arith, ⊎_elim}
 use Rattle.std.proofs.lemmas.List.Elements.{All-filter}
-use Rattle.cj_book.proofs.Common.{and_parts, AreFitMasks, BookSession, BookState, bytes_eq, concerns, Disabled, Enabled, Ended, Entry, entry_numbered, eqb-false, Event, has-and, has-zero, has_session, in_mask, is_end, is_orphan, is_orphan_of, is_target_at, IsAdministratorEntry, IsAllowedEvent, IsFitEntry, IsOfGiven, IsOfKnown, IsSessionEntry, Layout, legal_fit, list_any, LogFailed, Marker, new_session, numbered, OpenTransaction, Placement, placement_of, ReadFailed, Sched, session_number, sessions_after, transactions_after, without}
+use Rattle.cj_book.proofs.Common.{and_parts, AreFitMasks, BookSession, BookState, bytes_eq, concerns, Disabled, Enabled, Ended, Entry, entry_numbered, eqb-false, Event, has-and, has-zero, has_session, in_mask, is_end, is_orphan, is_orphan_of, is_target_at, IsAdministratorEntry, IsAllowedEvent, IsFitEntry, IsOfGiven, IsOfKnown, IsSessionEntry, Layout, legal_fit, list_any, LogFailed, Marker, book_session, numbered, OpenTransaction, Placement, placement_of, ReadFailed, Sched, session_number, sessions_after, transactions_after, without}
 use Rattle.cj_model.specs.Cluster.Caching.{CacheState}
 use Rattle.cj_model.specs.Cluster.Balancing.{Balance}
 use Rattle.cj_cluster.specs.History.Histories.{scheduled_entry, is_end_event, log, ended_count, is_free, open_entry_of, is_enabled, events_left, markers, tx_of}
@@ -68,7 +68,7 @@ module _ (layout : Layout) (h : List Event) (greatest mask : ℕ) (ss : List Boo
   -- ---- sessions
 
   -- one more
-  pub follows_opened : Follows layout h (greatest + 1) mask (ss ++ new_session (greatest + 1) ∷ []) ts
+  pub follows_opened : Follows layout h (greatest + 1) mask (ss ++ book_session (greatest + 1) ∷ []) ts
   follows_opened = record { legal = f.legal; sessions = sessions_opened (log h) greatest ss f.sessions; transactions = f.transactions; targets = f.targets }
 
   -- one less

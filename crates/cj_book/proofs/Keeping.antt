@@ -1,11 +1,11 @@
 -- A book with one more event.
 use Rattle.std.proofs.Common.{◌≡◌, ◌≢◌, Bool, ℕ, ◌+◌, ◌-◌, ◌*◌, ◌^◌, ◌%◌, ◌<◌, ◌≤◌, ◌==◌, ◌&&◌, ◌||◌, not, true, false, List, [], ◌∷◌, ◌++◌, length, map, All, Option, None, bit_and, bit_or, refl, ap, sym, ◌∙◌, subst, arith, length-append, ⊎_elim}
 use Rattle.std.proofs.lemmas.Bool.{eqb-true, eqb-false, and_parts, or_cases}
-use Rattle.cj_book.proofs.Common.{AreFitMasks, BookSession, bytes_eq, Disabled, Enabled, enabled_after_event, Ended, ended_count, Entry, entry_item, Event, events_left, failed_after, in_mask, is_enabled, is_end_event, is_free, items_behind, Layout, list_any, log, log_failure_session, LogFailed, LogItem, LogMarker, Marker, marker_item, markers, next, OpenTransaction, ReadFailed, Sched, scheduled_entry, session_number}
+use Rattle.cj_book.proofs.Common.{AreFitMasks, BookSession, bytes_eq, Disabled, Enabled, enabled_after_event, Ended, ended_count, Entry, entry_item, Event, events_left, log_failed_after, in_mask, is_enabled, is_end_event, is_free, items_behind, Layout, list_any, log, log_failure_session, LogFailed, LogItem, LogMarker, Marker, marker_item, markers, next, OpenTransaction, ReadFailed, Sched, scheduled_entry, session_number}
 use Rattle.cj_cluster.proofs.Pushed.{enabled-push, log-sched, log-same, done-same, done-ended}
 use Rattle.cj_book.proofs.Marked.{marked_more, marked_same, marked_sched}
 use Rattle.cj_book.specs.Books.{IsOpenSession}
-use Rattle.cj_book.specs.Kept.{Follows, IsKeptBook, KeepsHistory}
+use Rattle.cj_book.specs.Kept.{Follows, IsKeptBook, KeepsEntries}
 use Rattle.cj_book.proofs.Counted.{counted_fault, counted_more}
 use Rattle.cj_book.proofs.Following.{follows_disabled, follows_ended, follows_enabled, follows_log_failed, follows_marker, follows_read_failed}
 use Rattle.cj_book.proofs.Logged.{gate_same, gate_shut, items_marker, items_same, items_sched, write_after}
@@ -13,9 +13,9 @@ use Rattle.cj_model.proofs.MaskBits.{has_without, has_cleared, has_set}
 
 -- ---- the entries and the enabled backends
 
-module _ {n : ℕ} {h : List Event} {kept : List Entry} {ended on : ℕ} (k : KeepsHistory n h kept ended on) where
+module _ {n : ℕ} {h : List Event} {kept : List Entry} {ended on : ℕ} (k : KeepsEntries n h kept ended on) where
   -- an entry that is scheduled
-  keeps_sched : (e : Entry) → is_free h ≡ true → 3 ≤ events_left h → KeepsHistory n (h ++ Sched e ∷ []) (kept ++ e ∷ []) ended on
+  keeps_sched : (e : Entry) → is_free h ≡ true → 3 ≤ events_left h → KeepsEntries n (h ++ Sched e ∷ []) (kept ++ e ∷ []) ended on
   keeps_sched e idle space =
       let at_end : ended_count h ≡ length (log h) = eqb-true _ _ idle in
       let entries : log (h ++ Sched e ∷ []) ≡ log h ++ e ∷ [] = log-sched h e in
@@ -36,7 +36,7 @@ module _ {n : ℕ} {h : List Event} {kept : List Entry} {ended on : ℕ} (k : Ke
 
   -- an event that schedules and ends nothing
   keeps_same : (new : Event) (on' : ℕ) → scheduled_entry new ≡ None → is_end_event new ≡ false → 0 < events_left h → ((b : ℕ) → in_mask on' b ≡ is_enabled (h ++ new ∷ []) b)
-      → ((b : ℕ) → is_enabled (h ++ new ∷ []) b ≡ true → b < n) → KeepsHistory n (h ++ new ∷ []) kept ended on'
+      → ((b : ℕ) → is_enabled (h ++ new ∷ []) b ≡ true → b < n) → KeepsEntries n (h ++ new ∷ []) kept ended on'
   keeps_same new on' no_entry no_end space mask below =
       let entries : log (h ++ new ∷ []) ≡ log h = log-same h new no_entry in
       let as_many : length (log (h ++ new ∷ [])) ≡ length (log h) = ap length entries in
@@ -56,13 +56,13 @@ module _ {n : ℕ} {h : List Event} {kept : List Entry} {ended on : ℕ} (k : Ke
       }
 
   -- and leaves the enabled backends
-  keeps_quiet : (new : Event) → scheduled_entry new ≡ None → is_end_event new ≡ false → ((b : ℕ) (t : Bool) → enabled_after_event b t new ≡ t) → 0 < events_left h → KeepsHistory n (h ++ new ∷ []) kept ended on
+  keeps_quiet : (new : Event) → scheduled_entry new ≡ None → is_end_event new ≡ false → ((b : ℕ) (t : Bool) → enabled_after_event b t new ≡ t) → 0 < events_left h → KeepsEntries n (h ++ new ∷ []) kept ended on
   keeps_quiet new no_entry no_end quiet space =
       let same : (b : ℕ) → is_enabled (h ++ new ∷ []) b ≡ is_enabled h b = λ b. enabled-push h new b ∙ quiet b (is_enabled h b) in
       keeps_same new on no_entry no_end space (λ b. k.mask b ∙ sym (same b)) (λ b is. k.below b (sym (same b) ∙ is))
 
   -- the end of the open entry
-  keeps_ended : (f s : ℕ) → on < 2 ^ 32 → f < 2 ^ 32 → s < 2 ^ 32 → is_free h ≡ false → KeepsHistory n (h ++ Ended f s ∷ []) kept (ended + 1) (bit_and on (4294967295 - bit_or f s))
+  keeps_ended : (f s : ℕ) → on < 2 ^ 32 → f < 2 ^ 32 → s < 2 ^ 32 → is_free h ≡ false → KeepsEntries n (h ++ Ended f s ∷ []) kept (ended + 1) (bit_and on (4294967295 - bit_or f s))
   keeps_ended f s fits p q is_open =
       let entries : log (h ++ Ended f s ∷ []) ≡ log h = log-same h (Ended f s) refl in
       let as_many : length (log (h ++ Ended f s ∷ [])) ≡ length (log h) = ap length entries in
@@ -85,7 +85,7 @@ module _ {n : ℕ} {h : List Event} {kept : List Entry} {ended on : ℕ} (k : Ke
       }
 
   -- a backend is disabled
-  keeps_disabled : (b : ℕ) → on < 2 ^ 32 → b < n → 0 < events_left h → KeepsHistory n (h ++ Disabled b ∷ []) kept ended (bit_and on (4294967295 - 1 * 2 ^ b % 4294967296))
+  keeps_disabled : (b : ℕ) → on < 2 ^ 32 → b < n → 0 < events_left h → KeepsEntries n (h ++ Disabled b ∷ []) kept ended (bit_and on (4294967295 - 1 * 2 ^ b % 4294967296))
   keeps_disabled b fits lt space =
       let few : n ≤ 16 = k.backend_count.1 in
       keeps_same (Disabled b) (bit_and on (4294967295 - 1 * 2 ^ b % 4294967296)) refl refl space
@@ -93,7 +93,7 @@ module _ {n : ℕ} {h : List Event} {kept : List Entry} {ended on : ℕ} (k : Ke
       (λ x is. k.below x (and_parts (is_enabled h x) (not (x == b)) (sym (enabled-push h (Disabled b) x) ∙ is)).0)
 
   -- a backend is enabled
-  keeps_enabled : (b : ℕ) → b < n → 0 < events_left h → KeepsHistory n (h ++ Enabled b ∷ []) kept ended (bit_or on (1 * 2 ^ b % 4294967296))
+  keeps_enabled : (b : ℕ) → b < n → 0 < events_left h → KeepsEntries n (h ++ Enabled b ∷ []) kept ended (bit_or on (1 * 2 ^ b % 4294967296))
   keeps_enabled b lt space =
       let few : n ≤ 16 = k.backend_count.1 in
       keeps_same (Enabled b) (bit_or on (1 * 2 ^ b % 4294967296)) refl refl space
@@ -112,7 +112,7 @@ marker_behind h name b = record { after = length (log h); name = name; b = b }
 module _ {tells : Bool} {layout : Layout} {h : List Event} {kept : List Entry} {ended on greatest targets : ℕ} {ss : List BookSession} {ts : List OpenTransaction} {marks : List LogMarker} {given : List ℕ} {items : List LogItem} {torn : Bool} {before now : ℕ}
     (k : IsKeptBook tells layout h kept ended on greatest targets ss ts marks given items torn before now) where
   -- an event that is no item of the log
-  kept_more : (e : Event) {ended' on' targets' : ℕ} → log_failure_session e ≡ None → ((n : ℕ) → items_behind n (e ∷ []) ≡ []) → ((failed : Bool) → failed_after failed e ≡ failed) → KeepsHistory (length layout.names) (h ++ e ∷ []) kept ended' on'
+  kept_more : (e : Event) {ended' on' targets' : ℕ} → log_failure_session e ≡ None → ((n : ℕ) → items_behind n (e ∷ []) ≡ []) → ((failed : Bool) → log_failed_after failed e ≡ failed) → KeepsEntries (length layout.names) (h ++ e ∷ []) kept ended' on'
       → Follows layout (h ++ e ∷ []) greatest targets' ss ts → IsKeptBook tells layout (h ++ e ∷ []) kept ended' on' greatest targets' ss ts marks given items torn before now
   kept_more e unfailed none quiet history follows = record {
     history = history;

@@ -1,6 +1,6 @@
 -- The items of a history with one more event.
 use Rattle.std.proofs.Common.{◌≡◌, inl, inr, refl, Bool, true, false, ℕ, ◌+◌, [], ◌∷◌, ◌++◌, List, length, Option, arith, ap, ◌∙◌}
-use Rattle.cj_book.proofs.Common.{append-nil, Entry, entry_item, Event, failed_after, fold-append, IsKeptIn, items_behind, items_of, last_write_failed, log, LogItem, Marker, marker_item, Sched}
+use Rattle.cj_book.proofs.Common.{append-nil, Entry, entry_item, Event, log_failed_after, fold-append, IsKeptIn, items_behind, items_of, last_write_failed, log, LogItem, Marker, marker_item, Sched}
 use Rattle.cj_recovery.proofs.Longer.{items_append}
 use Rattle.cj_log.specs.Logs.{KeepsAtLeast, KeepsItems}
 
@@ -22,11 +22,11 @@ items_marker h name b =
 
 -- ---- whether the last write failed, one event later
 
-pub write_after : (h : List Event) (new : Event) → last_write_failed (h ++ new ∷ []) ≡ failed_after (last_write_failed h) new
-write_after h new = fold-append failed_after false h (new ∷ [])
+pub write_after : (h : List Event) (new : Event) → last_write_failed (h ++ new ∷ []) ≡ log_failed_after (last_write_failed h) new
+write_after h new = fold-append log_failed_after false h (new ∷ [])
 
 -- the gate, behind an event that writes nothing
-pub gate_same : (tells torn : Bool) (h : List Event) (new : Event) → ((failed : Bool) → failed_after failed new ≡ failed) → (tells ≡ true → torn ≡ true → last_write_failed h ≡ true) → tells ≡ true → torn ≡ true → last_write_failed (h ++ new ∷ []) ≡ true
+pub gate_same : (tells torn : Bool) (h : List Event) (new : Event) → ((failed : Bool) → log_failed_after failed new ≡ failed) → (tells ≡ true → torn ≡ true → last_write_failed h ≡ true) → tells ≡ true → torn ≡ true → last_write_failed (h ++ new ∷ []) ≡ true
 gate_same tells torn h new none gate t up = write_after h new ∙ (none (last_write_failed h) ∙ gate t up)
 
 -- a gate that is shut

@@ -5,7 +5,7 @@ use Rattle.std.proofs.lemmas.Bool.{eqb-true}
 use Rattle.std.proofs.lemmas.List.{map-append}
 use Rattle.std.proofs.lemmas.List.Elements.{All-cons, All-contains, All-contains_itself, All-filter, All-weaker}
 use Rattle.std.proofs.lemmas.List.Folds.{list_any-append}
-use Rattle.cj_book.proofs.Common.{and_parts, BookSession, both_ways, Entry, entry_numbered, eq-eqb, Event, event_count_of, has_session, HasCountNotes, is_orphan, is_orphan_of, IsLegal, list_any, log, LogFailed, new_session, next_session, Sched, SeatView, session_number, tx_of, without}
+use Rattle.cj_book.proofs.Common.{and_parts, BookSession, both_ways, Entry, entry_numbered, eq-eqb, Event, event_count_of, has_session, HasCountNotes, is_orphan, is_orphan_of, IsLegal, list_any, log, LogFailed, book_session, next_session, Sched, SeatView, session_number, tx_of, without}
 use Rattle.cj_cluster.proofs.Pushed.{prefix_get}
 use Rattle.cj_cluster.specs.Moves.Cores.{is_entry_of}
 use Rattle.cj_board.specs.Counting.{ends_transaction_of}
@@ -21,22 +21,22 @@ numbers_of ss = map session_number ss
 
 -- one more is open
 module _ (ss : List BookSession) (n : ℕ) where
-  still_open : (s : ℕ) → IsOpenSession (numbers_of ss) s → IsOpenSession (numbers_of (ss ++ new_session n ∷ [])) s
+  still_open : (s : ℕ) → IsOpenSession (numbers_of ss) s → IsOpenSession (numbers_of (ss ++ book_session n ∷ [])) s
   still_open s o = record {
     some = o.some;
     is_open =
-        ap (list_any (λ m. m == s)) (map-append session_number ss (new_session n ∷ []))
+        ap (list_any (λ m. m == s)) (map-append session_number ss (book_session n ∷ []))
         ∙ (list_any-append (λ m. m == s) (numbers_of ss) (n ∷ []) ∙ ap (λ b. b || list_any (λ m. m == s) (n ∷ [])) o.is_open);
   }
 
-  pub open_more : (given : List ℕ) → All (IsOpenSession (numbers_of ss)) given → All (IsOpenSession (numbers_of (ss ++ new_session n ∷ []))) given
-  open_more given all = All-weaker (IsOpenSession (numbers_of ss)) (IsOpenSession (numbers_of (ss ++ new_session n ∷ []))) still_open given all
+  pub open_more : (given : List ℕ) → All (IsOpenSession (numbers_of ss)) given → All (IsOpenSession (numbers_of (ss ++ book_session n ∷ []))) given
+  open_more given all = All-weaker (IsOpenSession (numbers_of ss)) (IsOpenSession (numbers_of (ss ++ book_session n ∷ []))) still_open given all
 
-  now_open : 0 < n → IsOpenSession (numbers_of (ss ++ new_session n ∷ [])) n
+  now_open : 0 < n → IsOpenSession (numbers_of (ss ++ book_session n ∷ [])) n
   now_open some = record {
     some = some;
     is_open =
-        ap (list_any (λ m. m == n)) (map-append session_number ss (new_session n ∷ []))
+        ap (list_any (λ m. m == n)) (map-append session_number ss (book_session n ∷ []))
         ∙ (list_any-append (λ m. m == n) (numbers_of ss) (n ∷ []) ∙ last (list_any (λ m. m == n) (numbers_of ss)) (n == n) (eq-eqb n n refl));
   }
     where
@@ -44,9 +44,9 @@ module _ (ss : List BookSession) (n : ℕ) where
       last true b is = refl
       last false b is = ap (λ x. x || false) is
 
-pub open_own_more : (ss : List BookSession) (greatest : ℕ) (v : SeatView) → greatest + 1 ≡ next_session v → All (IsOpenSession (numbers_of ss)) v.given → All (IsOpenSession (numbers_of (ss ++ new_session (greatest + 1) ∷ []))) (next_session v ∷ v.given)
+pub open_own_more : (ss : List BookSession) (greatest : ℕ) (v : SeatView) → greatest + 1 ≡ next_session v → All (IsOpenSession (numbers_of ss)) v.given → All (IsOpenSession (numbers_of (ss ++ book_session (greatest + 1) ∷ []))) (next_session v ∷ v.given)
 open_own_more ss greatest v gives all =
-    let P = IsOpenSession (numbers_of (ss ++ new_session (greatest + 1) ∷ [])) in
+    let P = IsOpenSession (numbers_of (ss ++ book_session (greatest + 1) ∷ [])) in
     All-cons P (next_session v) v.given (subst P gives (now_open ss (greatest + 1) (omega arith))) (open_more ss (greatest + 1) v.given all)
 
 -- another one is closed

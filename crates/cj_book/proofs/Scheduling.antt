@@ -4,7 +4,7 @@ use Rattle.std.specs.Prelude.{◌↔◌, IfErr, IsErrAnd}
 use Rattle.cj_book.proofs.Common.{Act, BookError, both_ways, Entry, entry_item, Event, events_left, HistoryFull, hosts_all, InProgress, is_free, IsBeforeOrAfter, LeavesOnly, log, LogFault, LogItem, marker_item, needs, NoBackend, NoMemory, Placement, Request, request_of}
 use Rattle.cj_cluster.specs.History.Answering.{HasNoServer, HasServer}
 use Rattle.cj_book.specs.Books.{BookState, CanSchedule, Checks, HasNoBackend, HasNoRoomForOne, HasRoom, IsInProgress, IsWant, LacksRoom, placement_at}
-use Rattle.cj_book.specs.Events.{Marks, Schedules}
+use Rattle.cj_book.specs.Events.{MarksCheckpoint, Schedules}
 
 unserved : (p : Placement) (h : List Event) (r : Request) → HasNoServer p h r → HasServer p h r → ⊥
 unserved p h r none some = let s = some none.0 in both_ways (hosts_all p s.0 (needs r)) (none.1 s.0 s.1.0) s.1.1
@@ -107,9 +107,9 @@ module _ {S : Type 0} (tells : Bool) (faults moment : S → ℕ) (since : S → 
         (λ m. (λ is. absurd (cc is), λ q. let few : events_left old.history < 3 = q.full in let space : 3 ≤ events_left old.history = can.space in absurd (omega arith))))
 
   -- a marker for which there is no room
-  pub unmarked : (name : List ℕ) (b : Option ℕ) (r : Result ℕ BookError) (d : BookError) → IsErrAnd r (λ x. x ≡ d) → HasRoom {T = Unit} old (Err d) → Marks tells faults moment since may old name b r old
+  pub unmarked : (name : List ℕ) (b : Option ℕ) (r : Result ℕ BookError) (d : BookError) → IsErrAnd r (λ x. x ≡ d) → HasRoom {T = Unit} old (Err d) → MarksCheckpoint tells faults moment since may old name b r old
   unmarked name b (Ok n) d is p = absurd is
-  unmarked name b (Err x) (HistoryFull n) is p = subst (λ (y : BookError). Marks tells faults moment since may old name b (Err y) old) (sym is) (record {
+  unmarked name b (Err x) (HistoryFull n) is p = subst (λ (y : BookError). MarksCheckpoint tells faults moment since may old name b (Err y) old) (sym is) (record {
     ok = tt;
     number = tt;
     space = tt;

@@ -11,7 +11,7 @@ use Rattle.cj_cluster.proofs.Common.{FitsTx, IsAdministratorEntry, IsFitEntry, I
 use Rattle.cj_cluster.specs.History.Transactions.{AreFit, is_begin, is_end}
 use Rattle.cj_cluster.proofs.Pushed.{get_left, get_seam}
 use Rattle.cj_cluster.proofs.TransactionLaws.{by_items, by_fit_entries, tx_of-push, tx_of_begin, tx_of_begin_other, tx_of_end, tx_of_end_other, tx_of_else, tx_of_below, one_session}
-use Rattle.cj_book.specs.Lists.{new_session, numbered, session_number, sessions_after, tx_number, transactions_after, new_tx, with_wrote, without, wrote_of}
+use Rattle.cj_book.specs.Lists.{book_session, numbered, session_number, sessions_after, tx_number, transactions_after, new_tx, with_wrote, without, wrote_of}
 use Rattle.cj_book.specs.Kept.{IsKeptSession, KeepsSessions, IsKeptTransaction, KeepsTransactions}
 use Rattle.cj_book.proofs.Numbered.{found_number, found_holds, found_by_test, member_holds, all_changed, all_without, any_changed, any_without, numbers_changed}
 
@@ -180,11 +180,11 @@ pub record EndsOf (entries : List Entry) (ss : List BookSession) (e : Entry) : T
   pub whose : (owner ≡ e.session) ⊎ ((e.session ≡ 0) × (is_some (numbered session_number ss owner) ≡ false))
 
 -- one more session, of the next number
-pub sessions_opened : (entries : List Entry) (greatest : ℕ) (ss : List BookSession) → KeepsSessions entries greatest ss → KeepsSessions entries (greatest + 1) (ss ++ new_session (greatest + 1) ∷ [])
+pub sessions_opened : (entries : List Entry) (greatest : ℕ) (ss : List BookSession) → KeepsSessions entries greatest ss → KeepsSessions entries (greatest + 1) (ss ++ book_session (greatest + 1) ∷ [])
 sessions_opened entries greatest ss k =
     record {
       each =
-          All-push (IsKeptSession entries (greatest + 1)) ss (new_session (greatest + 1))
+          All-push (IsKeptSession entries (greatest + 1)) ss (book_session (greatest + 1))
           (All-weaker (IsKeptSession entries greatest) (IsKeptSession entries (greatest + 1))
           (λ s h. let low : 0 < s.number = h.number.0 in let high : s.number ≤ greatest = h.number.1 in record { number = (omega arith, omega arith); tx = h.tx }) ss k.each)
           (record { number = (omega arith, omega arith); tx = sym (tx_unknown entries greatest (greatest + 1) k.known (omega arith)) });

@@ -76,18 +76,18 @@ IsSameButLog old new = new ≡ record old { recovery_log = new.recovery_log }
 -- ---- the recovery log
 
 -- whether the last write to the log failed, one event later
-abbrev pub failed_after : Bool → Event → Bool
-failed_after failed (Sched e) = false
-failed_after failed (Ended f s) = failed
-failed_after failed (ReadFailed s q b) = failed
-failed_after failed (LogFailed s q) = true
-failed_after failed (Disabled b) = failed
-failed_after failed (Enabled b) = failed
-failed_after failed (Marker name b) = false
+abbrev pub log_failed_after : Bool → Event → Bool
+log_failed_after failed (Sched e) = false
+log_failed_after failed (Ended f s) = failed
+log_failed_after failed (ReadFailed s q b) = failed
+log_failed_after failed (LogFailed s q) = true
+log_failed_after failed (Disabled b) = failed
+log_failed_after failed (Enabled b) = failed
+log_failed_after failed (Marker name b) = false
 
 -- the last write to the log that the history tells of failed
 abbrev pub last_write_failed : List Event → Bool
-last_write_failed h = fold failed_after false h
+last_write_failed h = fold log_failed_after false h
 
 -- A log's bytes keep the entries and markers of a history. Behind a write that failed they may keep one item more, the one that was refused.
 pub record IsKeptIn (bytes : List ℕ) (h : List Event) : Type 0 where

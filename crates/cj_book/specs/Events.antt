@@ -14,7 +14,7 @@ use Rattle.cj_book.specs.declared.error.BookError.TheVariants.{InProgress, NoBac
 use Rattle.cj_book.specs.Books.{BookState, CanSchedule, HasNoBackend, HasNoRoomForOne, IsFull, IsInProgress, IsSameButLog, IsWant, LacksRoom, with_entry, with_event}
 
 -- the event comes, where there is room in the history
-pub record Appends {S T : Type 0} (old : BookState S) (e : Event) (result : Result T BookError) (new : BookState S) : Type 0 where
+pub record AppendsEvent {S T : Type 0} (old : BookState S) (e : Event) (result : Result T BookError) (new : BookState S) : Type 0 where
   pub ok : OnOk result (new ≡ with_event old e)
   pub space : OnOk result (0 < events_left old.history)
   pub full : (n : ℕ) → IsErrOf result (HistoryFull n) ↔ HasNoRoomForOne old n
@@ -43,7 +43,7 @@ pub record Schedules {S : Type 0} (tells : Bool) (faults moment : S → ℕ) (si
   pub safe : tells ≡ true → OnOk result (LeavesItems (may new.recovery_log.store) (items_of new.history))
 
 -- The checkpoint is marked behind all entries, with its item in the log. The rest is as for an entry.
-pub record Marks {S : Type 0} (tells : Bool) (faults moment : S → ℕ) (since : S → ℕ → List ℕ → Type 0) (may : S → List ℕ → Type 0) (old : BookState S) (name : List ℕ) (b : Option ℕ) (result : Result ℕ BookError) (new : BookState S) : Type 0 where
+pub record MarksCheckpoint {S : Type 0} (tells : Bool) (faults moment : S → ℕ) (since : S → ℕ → List ℕ → Type 0) (may : S → List ℕ → Type 0) (old : BookState S) (name : List ℕ) (b : Option ℕ) (result : Result ℕ BookError) (new : BookState S) : Type 0 where
   pub ok : OnOk result (IsSameButLog (with_event old (Marker name b)) new)
   pub number : IfOk result (λ n. n ≡ length (log new.history))
   pub space : OnOk result (0 < events_left old.history)

@@ -20,7 +20,7 @@ use Rattle.cj_model.specs.declared.limits.TheConstants.{BACKEND_LIMIT, EVENT_LIM
 use Rattle.cj_model.specs.Database.Tables.{Rises}
 
 -- For so many backends: the entries of the history, how many of them ended, and the mask of the enabled backends.
-pub record KeepsHistory (backends : ℕ) (h : List Event) (kept : List Entry) (ended on : ℕ) : Type 0 where
+pub record KeepsEntries (backends : ℕ) (h : List Event) (kept : List Entry) (ended on : ℕ) : Type 0 where
   pub backend_count : (0 < backends) × (backends ≤ BACKEND_LIMIT)
   pub entries : kept ≡ log h
   pub entry_count : length kept ≡ length (log h)
@@ -70,7 +70,7 @@ pub record KeepsRoom (ss : List BookSession) (capacity : ℕ) : Type 0 where
 
 -- what a book keeps beside what contracts see of it
 pub record IsKeptBook (tells : Bool) (layout : Layout) (h : List Event) (kept : List Entry) (ended on greatest targets : ℕ) (ss : List BookSession) (ts : List OpenTransaction) (marks : List LogMarker) (given : List ℕ) (items : List LogItem) (torn : Bool) (before now : ℕ) : Type 0 where
-  pub history : KeepsHistory (length layout.names) h kept ended on
+  pub history : KeepsEntries (length layout.names) h kept ended on
   pub follows : Follows layout h greatest targets ss ts
   pub marked : marks ≡ markers_of h
   pub within : greatest ≤ SESSION_NUMBER_LIMIT

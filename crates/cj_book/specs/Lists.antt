@@ -35,8 +35,8 @@ abbrev pub session_number : BookSession → ℕ
 session_number s = s.number
 
 -- a session with no transaction
-abbrev pub new_session : ℕ → BookSession
-new_session n = record { number = n; tx = 0 }
+abbrev pub book_session : ℕ → BookSession
+book_session n = record { number = n; tx = 0 }
 
 -- the session of a number has this transaction open
 abbrev pub with_tx : ℕ → ℕ → List BookSession → List BookSession

@@ -21,7 +21,7 @@ ghost use Rattle.cj_board.specs.Seats.{board_id, book_board, book_view, front, p
 ghost use Rattle.cj_board.specs.Steps.{after_append, after_join, after_learning, after_split, HasFaultTokens, HasPositionNotes};
 ghost use Rattle.cj_board.specs.Views.{pass_of, pass_without_tokens};
 ghost use Rattle.cj_book.specs.Books.{last_write_failed, with_entry, with_event, CanSchedule, IsKeptIn, IsOfGiven, IsOfKnown, IsPrepared, IsSameButLog};
-ghost use Rattle.cj_book.specs.Events.{Appends, Marks, Schedules};
+ghost use Rattle.cj_book.specs.Events.{AppendsEvent, MarksCheckpoint, Schedules};
 ghost use Rattle.cj_book.specs.Found.{start_error_of, entry_error_of};
 ghost use Rattle.cj_book.specs.Seated.{event_at_ok, event_or_fault, opened_state, view_after, GivesOwnPassesOnly, HasCountedLogFaults, IsCounted, OwnersAreOpen};
 ghost use Rattle.cj_book.specs.Starts.{CountsStartFault, IsStarted, Starts};

@@ -8,7 +8,7 @@ ghost use Rattle.cj_board.specs.Points.{fault_tokens_of};
 ghost use Rattle.cj_board.specs.Seats.{board_id};
 ghost use Rattle.cj_board.specs.Steps.{after_append, HasFaultTokens, HasPositionNotes};
 ghost use Rattle.cj_book.specs.Books.{with_event};
-ghost use Rattle.cj_book.specs.Events.{Appends};
+ghost use Rattle.cj_book.specs.Events.{AppendsEvent};
 ghost use Rattle.cj_book.specs.Seated.{event_at_ok, view_after, GivesOwnPassesOnly};
 
 use crate::book::Book;
@@ -43,7 +43,7 @@ impl<S: Store> Book<S> {
         requires is_free { is_free self.old.state.history ≡ true }
         requires below { b < length self.old.state.layout.names }
         requires is_enabled { is_enabled self.old.state.history b ≡ true }
-        ensures state { Appends self.old.state (Event.Disabled b) result self.new.state }
+        ensures state { AppendsEvent self.old.state (Event.Disabled b) result self.new.state }
         ensures board { self.new.board ≡ self.old.board }
         ensures opening { self.new.faults_at_opening ≡ self.old.faults_at_opening }
         ensures seat { self.new.view ≡ view_after (event_at_ok (Event.Disabled b) result) self.old.view }
@@ -62,7 +62,7 @@ impl<S: Store> Book<S> {
         requires below { b < length self.old.state.layout.names }
         requires is_disabled { is_enabled self.old.state.history b ≡ false }
         requires position { Contains self.old.view.position_notes (b, length (log self.old.state.history)) }
-        ensures state { Appends self.old.state (Event.Enabled b) result self.new.state }
+        ensures state { AppendsEvent self.old.state (Event.Enabled b) result self.new.state }
         ensures board { self.new.board ≡ self.old.board }
         ensures opening { self.new.faults_at_opening ≡ self.old.faults_at_opening }
         ensures seat { self.new.view ≡ view_after (event_at_ok (Event.Enabled b) result) self.old.view }
@@ -84,7 +84,7 @@ impl<S: Store> Book<S> {
     ) -> Result<(), BookError>
         requires board { self.old.board ≡ board_id board.now }
         requires fault { 0 < fault_tokens_of b self.old.view.fault_tokens }
-        ensures state { Appends self.old.state (Event.ReadFailed session seq b) result self.new.state }
+        ensures state { AppendsEvent self.old.state (Event.ReadFailed session seq b) result self.new.state }
         ensures board { self.new.board ≡ self.old.board }
         ensures opening { self.new.faults_at_opening ≡ self.old.faults_at_opening }
         ensures seat { self.new.view ≡ view_after (event_at_ok (Event.ReadFailed session seq b) result) self.old.view }

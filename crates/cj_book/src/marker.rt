@@ -10,7 +10,7 @@ ghost use Rattle.cj_outside.specs.Causes.{CountsFault};
 ghost use Rattle.cj_outside.specs.Stores.{LeavesOnly};
 ghost use Rattle.cj_board.specs.Seats.{board_id, history};
 ghost use Rattle.cj_book.specs.Books.{with_event, IsSameButLog};
-ghost use Rattle.cj_book.specs.Events.{Marks};
+ghost use Rattle.cj_book.specs.Events.{MarksCheckpoint};
 ghost use Rattle.cj_book.specs.Seated.{event_or_fault, view_after, GivesOwnPassesOnly, IsCounted};
 
 use crate::book::Book;
@@ -42,7 +42,7 @@ impl<S: Store> Book<S> {
         requires named { name.now ≢ [] }
         requires backend { b ≢ Some 255 }
         requires counted { IsCounted self.old (Event.LogFailed 0 0) }
-        ensures state { Marks S.tells S.faults S.moment S.since S.may self.old.state name.now b result self.new.state }
+        ensures state { MarksCheckpoint S.tells S.faults S.moment S.since S.may self.old.state name.now b result self.new.state }
         ensures board { self.new.board ≡ self.old.board }
         ensures opening { self.new.faults_at_opening ≡ self.old.faults_at_opening }
         ensures seat { self.new.view ≡ view_after (event_or_fault (Event.Marker name.now b) (Event.LogFailed 0 0) result) self.old.view }

@@ -1,7 +1,7 @@
 //! The open sessions, with their transactions.
 
 ghost use Rattle.std.specs.Prelude.{◌≡◌, ◌<◌, [], ◌∷◌, ◌++◌, length, All, IfOk, OnErr, OnOk, MatchOption, None};
-ghost use Rattle.cj_book.specs.Lists.{IsIndexOf, new_session, numbered, session_number, with_tx, without};
+ghost use Rattle.cj_book.specs.Lists.{IsIndexOf, book_session, numbered, session_number, with_tx, without};
 ghost use Rattle.cj_book.specs.Lists as lists;
 
 use cj_model::{Act, Entry, NoMemory, SESSION_LIMIT};
@@ -74,7 +74,7 @@ impl BookSessions {
     pub fn add(&mut self, number: u64)
         requires few { length self.old < SESSION_LIMIT }
         requires above { All (λ s. session_number s < number) self.old }
-        ensures { self.new ≡ self.old ++ new_session number ∷ [] }
+        ensures { self.new ≡ self.old ++ book_session number ∷ [] }
     {
         self.open.push_reserved(BookSession { number, tx: 0 });
     }
@@ -82,7 +82,7 @@ impl BookSessions {
     /// The same however many are open. It takes memory where they are many.
     pub fn try_add(&mut self, number: u64) -> Result<(), NoMemory>
         requires { All (λ s. session_number s < number) self.old }
-        ensures ok { OnOk result (self.new ≡ self.old ++ new_session number ∷ []) }
+        ensures ok { OnOk result (self.new ≡ self.old ++ book_session number ∷ []) }
         ensures err { OnErr result (self.new ≡ self.old) }
     {
         self.open.push(BookSession { number, tx: 0 })?;

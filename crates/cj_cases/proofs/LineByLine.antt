@@ -6,9 +6,9 @@ use Rattle.cj_outside.proofs.Joined.{appends_then, appends_none}
 use Rattle.cj_outside.specs.declared.sink.OutError.{OutError}
 use Rattle.cj_outside.specs.declared.sink.OutError.TheVariants.{Failed, NoMemory}
 use Rattle.cj_cases.specs.Cases.{CaseState, no_case, ran}
-use Rattle.cj_cases.specs.Lines.{behind, before, lines_of, parts_behind, said, Says}
-use Rattle.cj_cases.specs.Plays.{asks_run, refused_line, IsNoDirective, PlayedAll, PlayedSome, PlayedTo, Plays}
-use Rattle.cj_cases.specs.Plays.{PlaysInPart, PlaysLine, PlaysOrStops, RunsInPart, RunsOrStops, Stops, WritesLine}
+use Rattle.cj_cases.specs.Lines.{behind, before, lines_of, parts_behind, said, SaysOfCase}
+use Rattle.cj_cases.specs.Plays.{asks_run, refused_line, IsNoDirective, PlayedAllCases, PlayedSomeCases, PlayedCasesTo, PlaysCaseLines}
+use Rattle.cj_cases.specs.Plays.{PlaysInPart, PlaysCaseLine, PlaysOrStops, RunsInPart, RunsOrStops, StopsPlay, WritesLine}
 use Rattle.cj_cases.specs.Plays.{WritesNone}
 use Rattle.cj_cases.specs.declared.runner.Outcome.{Outcome}
 use Rattle.cj_cases.proofs.Cutting.{part_more, parts_cut}
@@ -16,13 +16,13 @@ use Rattle.cj_cases.proofs.Cutting.{part_more, parts_cut}
 -- the lines, and one more behind them
 pub plays_more : (gives : CaseState → Outcome → Type 0) (c : CaseState) (lines : List (List ℕ)) (written : List ℕ)
     (mid : CaseState) (line more : List ℕ) (z : CaseState)
-    → Plays gives c lines written mid → PlaysLine gives mid line more z
-    → Plays gives c (lines ++ line ∷ []) (written ++ more) z
+    → PlaysCaseLines gives c lines written mid → PlaysCaseLine gives mid line more z
+    → PlaysCaseLines gives c (lines ++ line ∷ []) (written ++ more) z
 plays_more gives c [] written mid line more z before next = (
   z,
   more,
   [],
-  subst (λ (x : CaseState). PlaysLine gives x line more z) before.1 next,
+  subst (λ (x : CaseState). PlaysCaseLine gives x line more z) before.1 next,
   (refl, refl),
   ap (λ (t : List ℕ). t ++ more) before.0 ∙ sym (append-nil more),
 )
@@ -41,14 +41,14 @@ pub record Playing (gives : CaseState → Outcome → Type 0) (text : List ℕ) 
   pub lines : List (List ℕ)
   pub parts : lines_of text ≡ lines ++ parts_behind 10 rest
   pub written : List ℕ
-  pub plays : Plays gives no_case lines written z
+  pub plays : PlaysCaseLines gives no_case lines written z
   pub appended : Appends held held' written
 
 -- a line was played
 pub playing_more : (gives : CaseState → Outcome → Type 0) (text here : List ℕ) (rest more : Option (List ℕ))
     (line written : List ℕ) (held held' held'' : Option (List ℕ)) (mid z : CaseState)
     → Playing gives text rest held held' mid → rest ≡ Some here → line ≡ before 10 here → more ≡ behind 10 here
-    → PlaysLine gives mid line written z → Appends held' held'' written → Playing gives text more held held'' z
+    → PlaysCaseLine gives mid line written z → Appends held' held'' written → Playing gives text more held held'' z
 playing_more gives text here rest more line written held held' held'' mid z p is first others plays appended =
     record {
       lines = p.lines ++ line ∷ [];
@@ -64,11 +64,11 @@ playing_more gives text here rest more line written held held' held'' mid z p is
 -- at the end all were
 pub played_all : (gives : CaseState → Outcome → Type 0) (text : List ℕ) (rest : Option (List ℕ))
     (held held' : Option (List ℕ)) (z : CaseState) → Playing gives text rest held held' z → rest ≡ None
-    → PlayedAll gives (lines_of text) held held'
+    → PlayedAllCases gives (lines_of text) held held'
 played_all gives text rest held held' z p none = record {
   written = p.written;
   last = z;
-  plays = subst (λ (l : List (List ℕ)). Plays gives no_case l p.written z)
+  plays = subst (λ (l : List (List ℕ)). PlaysCaseLines gives no_case l p.written z)
       (sym (p.parts ∙ ap (λ r. p.lines ++ parts_behind 10 r) none ∙ append-nil p.lines)) p.plays;
   appended = p.appended;
 }
@@ -94,7 +94,7 @@ pub played_to : (gives : CaseState → Outcome → Type 0) (Refuses : List ℕ �
     (rest : Option (List ℕ)) (line : List ℕ) (held held' held'' : Option (List ℕ)) (mid : CaseState)
     → Playing gives text rest held held' mid → rest ≡ Some here → line ≡ before 10 here → IsNoDirective mid line
     → WritesNone held' held'' → Refuses (refused_line mid line)
-    → PlayedTo gives Refuses (lines_of text) held held''
+    → PlayedCasesTo gives Refuses (lines_of text) held held''
 played_to gives Refuses text here rest line held held' held'' mid p is first wrong none refused = record {
   front = p.lines;
   line = line;
@@ -112,7 +112,7 @@ played_to gives Refuses text here rest line held held' held'' mid p is first wro
 pub played_some : (gives : CaseState → Outcome → Type 0) (text here : List ℕ) (rest : Option (List ℕ)) (line : List ℕ)
     (held held' held'' : Option (List ℕ)) (mid : CaseState) (e : OutError)
     → Playing gives text rest held held' mid → rest ≡ Some here → line ≡ before 10 here
-    → Stops gives mid line held' held'' e → PlayedSome gives (lines_of text) held held'' e
+    → StopsPlay gives mid line held' held'' e → PlayedSomeCases gives (lines_of text) held held'' e
 played_some gives text here rest line held held' held'' mid e p is first stops = record {
   front = p.lines;
   line = line;
@@ -161,7 +161,7 @@ in_part gives c line held held' asks r = record {
 
 pub stops : (gives : CaseState → Outcome → Type 0) (c : CaseState) (line : List ℕ) (held held' : Option (List ℕ))
     (z : CaseState) (e : OutError) → asks_run c line ≡ true → RunsOrStops gives c held held' z (Err e)
-    → Stops gives c line held held' e
+    → StopsPlay gives c line held held' e
 stops gives c line held held' z Failed asks r = in_part gives c line held held' asks r
 stops gives c line held held' z NoMemory asks (inl none) = inl none
 stops gives c line held held' z NoMemory asks (inr r) = inr (in_part gives c line held held' asks r)
@@ -174,7 +174,7 @@ run_cut gives c held held' z NoMemory r = inr r
 
 -- a line that says something, or is no directive
 pub says : (gives : CaseState → Outcome → Type 0) (c : CaseState) (line : List ℕ) (held : Option (List ℕ))
-    (z : CaseState) (known : Bool) → asks_run c line ≡ false → Says (said c line) c z known
+    (z : CaseState) (known : Bool) → asks_run c line ≡ false → SaysOfCase (said c line) c z known
     → PlaysOrStops gives c line held held z (Ok known)
 says gives c line held z true asks is =
     ([], inr (record { asks = asks; says = is; nothing = refl }), appends_none held)

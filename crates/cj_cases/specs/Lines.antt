@@ -189,6 +189,6 @@ said c line =
     else said_by c (verb_of (first_word line)) (behind_word line)
 
 -- what a call that took a line answers: whether it was a directive; then the case is as it says, and else as before
-abbrev pub Says : Option CaseState → CaseState → CaseState → Bool → Type 0
-Says wanted old new true = wanted ≡ Some new
-Says wanted old new false = (wanted ≡ None) × (new ≡ old)
+abbrev pub SaysOfCase : Option CaseState → CaseState → CaseState → Bool → Type 0
+SaysOfCase wanted old new true = wanted ≡ Some new
+SaysOfCase wanted old new false = (wanted ≡ None) × (new ≡ old)

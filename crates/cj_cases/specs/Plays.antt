@@ -39,8 +39,8 @@ pub record SaysLine (c : CaseState) (line written : List ℕ) (z : CaseState) : 
   pub nothing : written ≡ []
 
 -- a line is played
-abbrev pub PlaysLine : (CaseState → Outcome → Type 0) → CaseState → List ℕ → List ℕ → CaseState → Type 0
-PlaysLine gives c line written z = RunsCase gives c line written z ⊎ SaysLine c line written z
+abbrev pub PlaysCaseLine : (CaseState → Outcome → Type 0) → CaseState → List ℕ → List ℕ → CaseState → Type 0
+PlaysCaseLine gives c line written z = RunsCase gives c line written z ⊎ SaysLine c line written z
 
 -- a line is no directive
 pub record IsNoDirective (c : CaseState) (line : List ℕ) : Type 0 where
@@ -51,20 +51,20 @@ pub record IsNoDirective (c : CaseState) (line : List ℕ) : Type 0 where
 
 -- From the case c the lines are played, one after another, to the case z, and this is the text of the runs that they
 -- ask for.
-abbrev pub Plays : (CaseState → Outcome → Type 0) → CaseState → List (List ℕ) → List ℕ → CaseState → Type 0
-Plays gives c [] written z = (written ≡ []) × (z ≡ c)
-Plays gives c (line ∷ lines) written z =
-    (mid : CaseState) × (front : List ℕ) × (rest : List ℕ) × PlaysLine gives c line front mid
-    × Plays gives mid lines rest z × (written ≡ front ++ rest)
+abbrev pub PlaysCaseLines : (CaseState → Outcome → Type 0) → CaseState → List (List ℕ) → List ℕ → CaseState → Type 0
+PlaysCaseLines gives c [] written z = (written ≡ []) × (z ≡ c)
+PlaysCaseLines gives c (line ∷ lines) written z =
+    (mid : CaseState) × (front : List ℕ) × (rest : List ℕ) × PlaysCaseLine gives c line front mid
+    × PlaysCaseLines gives mid lines rest z × (written ≡ front ++ rest)
 
 -- ---- ends
 
 -- all lines were played
-pub record PlayedAll (gives : CaseState → Outcome → Type 0) (lines : List (List ℕ))
+pub record PlayedAllCases (gives : CaseState → Outcome → Type 0) (lines : List (List ℕ))
     (held held' : Option (List ℕ)) : Type 0 where
   pub written : List ℕ
   pub last : CaseState
-  pub plays : Plays gives no_case lines written last
+  pub plays : PlaysCaseLines gives no_case lines written last
   pub appended : Appends held held' written
 
 -- the cases up to a line that is none of them, which counts where it was to begin another
@@ -76,7 +76,7 @@ abbrev pub refused_line : CaseState → List ℕ → List ℕ
 refused_line c line = codes "case " ++ decimal (number_at c line) ++ 10 ∷ []
 
 -- the lines before this one were played, and it is no directive, which was written as `Refuses` says
-pub record PlayedTo (gives : CaseState → Outcome → Type 0) (Refuses : List ℕ → Type 0) (lines : List (List ℕ))
+pub record PlayedCasesTo (gives : CaseState → Outcome → Type 0) (Refuses : List ℕ → Type 0) (lines : List (List ℕ))
     (held held' : Option (List ℕ)) : Type 0 where
   pub front : List (List ℕ)
   pub line : List ℕ
@@ -84,7 +84,7 @@ pub record PlayedTo (gives : CaseState → Outcome → Type 0) (Refuses : List �
   pub parts : lines ≡ front ++ line ∷ others
   pub written : List ℕ
   pub last : CaseState
-  pub plays : Plays gives no_case front written last
+  pub plays : PlaysCaseLines gives no_case front written last
   pub wrong : IsNoDirective last line
   pub appended : Appends held held' written
   pub refused : Refuses (refused_line last line)
@@ -94,7 +94,7 @@ pub record PlaysInPart (gives : CaseState → Outcome → Type 0) (c : CaseState
     (held held' : Option (List ℕ)) : Type 0 where
   pub written : List ℕ
   pub last : CaseState
-  pub plays : PlaysLine gives c line written last
+  pub plays : PlaysCaseLine gives c line written last
   pub count : ℕ
   pub cut : count < length written
   pub appended : Appends held held' (take count written)
@@ -105,13 +105,13 @@ WritesNone held held' = Appends held held' []
 
 -- what is written of a line in which this came: a fault only while its text was written, and want of memory before
 -- that, too
-abbrev pub Stops : (CaseState → Outcome → Type 0) → CaseState → List ℕ → (held held' : Option (List ℕ)) → OutError
+abbrev pub StopsPlay : (CaseState → Outcome → Type 0) → CaseState → List ℕ → (held held' : Option (List ℕ)) → OutError
     → Type 0
-Stops gives c line held held' errors.Failed = PlaysInPart gives c line held held'
-Stops gives c line held held' errors.NoMemory = WritesNone held held' ⊎ PlaysInPart gives c line held held'
+StopsPlay gives c line held held' errors.Failed = PlaysInPart gives c line held held'
+StopsPlay gives c line held held' errors.NoMemory = WritesNone held held' ⊎ PlaysInPart gives c line held held'
 
 -- the lines before this one were played, and in it this came
-pub record PlayedSome (gives : CaseState → Outcome → Type 0) (lines : List (List ℕ)) (held held' : Option (List ℕ))
+pub record PlayedSomeCases (gives : CaseState → Outcome → Type 0) (lines : List (List ℕ)) (held held' : Option (List ℕ))
     (error : OutError) : Type 0 where
   pub front : List (List ℕ)
   pub line : List ℕ
@@ -119,18 +119,18 @@ pub record PlayedSome (gives : CaseState → Outcome → Type 0) (lines : List (
   pub parts : lines ≡ front ++ line ∷ others
   pub written : List ℕ
   pub last : CaseState
-  pub plays : Plays gives no_case front written last
+  pub plays : PlaysCaseLines gives no_case front written last
   pub between : Option (List ℕ)
   pub appended : Appends held between written
-  pub stops : Stops gives last line between held' error
+  pub stops : StopsPlay gives last line between held' error
 
 -- how the play of these lines ended with this status
 abbrev pub EndsPlay : (CaseState → Outcome → Type 0) → (List ℕ → Type 0) → List (List ℕ)
     → (held held' : Option (List ℕ)) → ℕ → Type 0
 EndsPlay gives Refuses lines held held' status =
-    ((status ≡ 0) × PlayedAll gives lines held held') ⊎ (((status ≡ 10) × PlayedTo gives Refuses lines held held')
-    ⊎ (((status ≡ 6) × PlayedSome gives lines held held' errors.Failed)
-    ⊎ ((status ≡ 1) × PlayedSome gives lines held held' errors.NoMemory)))
+    ((status ≡ 0) × PlayedAllCases gives lines held held') ⊎ (((status ≡ 10) × PlayedCasesTo gives Refuses lines held held')
+    ⊎ (((status ≡ 6) × PlayedSomeCases gives lines held held' errors.Failed)
+    ⊎ ((status ≡ 1) × PlayedSomeCases gives lines held held' errors.NoMemory)))
 
 -- The source was read to its end, and its lines were played, which ended with this status; or it failed, or had too
 -- many bytes, or did not fit into memory, and no line was played.
@@ -174,7 +174,7 @@ RunsOrStops gives c held held' z (Err errors.NoMemory) = WritesNone held held' �
 -- or while its text was written
 abbrev pub PlaysOrStops : (CaseState → Outcome → Type 0) → CaseState → List ℕ → (held held' : Option (List ℕ))
     → CaseState → Result Bool OutError → Type 0
-PlaysOrStops gives c line held held' z (Ok true) = (written : List ℕ) × PlaysLine gives c line written z
+PlaysOrStops gives c line held held' z (Ok true) = (written : List ℕ) × PlaysCaseLine gives c line written z
     × Appends held held' written
 PlaysOrStops gives c line held held' z (Ok false) = IsNoDirective c line × (z ≡ c) × WritesNone held held'
-PlaysOrStops gives c line held held' z (Err e) = Stops gives c line held held' e
+PlaysOrStops gives c line held held' z (Err e) = StopsPlay gives c line held held' e

@@ -34,12 +34,12 @@ next_step BehindX b = if is_digit b then Goes (BehindDigit (digit_value b)) else
 next_step (BehindDigit high) b = if is_digit b then Gives (16 * high + digit_value b) else Wrong
 
 -- the digit behind which a reader stands is one
-abbrev pub IsPlace : Place → Type 0
-IsPlace (BehindDigit high) = high < 16
-IsPlace place = Unit {0}
+abbrev pub IsDigitAt : Place → Type 0
+IsDigitAt (BehindDigit high) = high < 16
+IsDigitAt place = Unit {0}
 
 abbrev pub StepsToPlace : Step → Type 0
-StepsToPlace (Goes next) = IsPlace next
+StepsToPlace (Goes next) = IsDigitAt next
 StepsToPlace step = Unit {0}
 
 -- one more byte in front

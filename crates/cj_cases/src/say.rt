@@ -2,7 +2,7 @@
 
 ghost use Rattle.std.specs.Prelude.{◌≡◌, IfOk, OnOk};
 ghost use Rattle.cj_cases.specs.Cases.{ran};
-ghost use Rattle.cj_cases.specs.Lines.{begun, failing_in, said, said_of_case, Says};
+ghost use Rattle.cj_cases.specs.Lines.{begun, failing_in, said, said_of_case, SaysOfCase};
 ghost use Rattle.cj_cases.specs.Lines.{with_configuration_line, with_pieces};
 ghost use Rattle.cj_cases.specs.Lines as lines;
 ghost use Rattle.cj_cases.specs.Failing.{calls_of};
@@ -37,7 +37,7 @@ impl Case {
     ///
     /// Where memory is wanting, the case may have a part of what was said.
     pub(crate) fn say(&mut self, alloc: Global, line: &[u8]) -> Result<bool, NoMemory>
-        ensures { IfOk result (Says (said self.old line.now) self.old self.new) }
+        ensures { IfOk result (SaysOfCase (said self.old line.now) self.old self.new) }
     {
         if is_remark(line) {
             return Ok(true);
@@ -73,7 +73,7 @@ impl Case {
     }
 
     fn begin(&mut self, alloc: Global, text: &[u8]) -> Result<bool, NoMemory>
-        ensures { IfOk result (Says (option_map (begun self.old) (texts.spelled text.now)) self.old self.new) }
+        ensures { IfOk result (SaysOfCase (option_map (begun self.old) (texts.spelled text.now)) self.old self.new) }
     {
         let Some(name) = spelled(alloc, text)? else {
             return Ok(false);
@@ -109,7 +109,7 @@ impl Case {
     }
 
     fn say_of_case(&mut self, alloc: Global, verb: Verb, text: &[u8]) -> Result<bool, NoMemory>
-        ensures { IfOk result (Says (said_of_case self.old verb text.now) self.old self.new) }
+        ensures { IfOk result (SaysOfCase (said_of_case self.old verb text.now) self.old self.new) }
     {
         match verb {
             Verb::Configuration | Verb::Case => Ok(false),
@@ -131,7 +131,7 @@ impl Case {
     }
 
     fn say_words(&mut self, alloc: Global, text: &[u8]) -> Result<bool, NoMemory>
-        ensures { IfOk result (Says (said_of_case self.old verbs.Words text.now) self.old self.new) }
+        ensures { IfOk result (SaysOfCase (said_of_case self.old verbs.Words text.now) self.old self.new) }
     {
         let Some(words) = words_of(alloc, text)? else {
             return Ok(false);
@@ -141,7 +141,7 @@ impl Case {
     }
 
     fn add_to_log(&mut self, alloc: Global, text: &[u8]) -> Result<bool, NoMemory>
-        ensures { IfOk result (Says (said_of_case self.old verbs.Log text.now) self.old self.new) }
+        ensures { IfOk result (SaysOfCase (said_of_case self.old verbs.Log text.now) self.old self.new) }
     {
         let Some(bytes) = spelled(alloc, text)? else {
             return Ok(false);
@@ -151,7 +151,7 @@ impl Case {
     }
 
     fn add_input(&mut self, alloc: Global, text: &[u8]) -> Result<bool, NoMemory>
-        ensures { IfOk result (Says (said_of_case self.old verbs.Input text.now) self.old self.new) }
+        ensures { IfOk result (SaysOfCase (said_of_case self.old verbs.Input text.now) self.old self.new) }
     {
         let Some(bytes) = spelled(alloc, text)? else {
             return Ok(false);
@@ -161,7 +161,7 @@ impl Case {
     }
 
     fn add_line(&mut self, alloc: Global, text: &[u8]) -> Result<bool, NoMemory>
-        ensures { IfOk result (Says (said_of_case self.old verbs.InputLine text.now) self.old self.new) }
+        ensures { IfOk result (SaysOfCase (said_of_case self.old verbs.InputLine text.now) self.old self.new) }
     {
         let Some(bytes) = spelled(alloc, text)? else {
             return Ok(false);
@@ -173,7 +173,7 @@ impl Case {
 
     /// Adds a Query's frame, where its length can be written in one.
     fn add_query(&mut self, alloc: Global, text: &[u8]) -> Result<bool, NoMemory>
-        ensures { IfOk result (Says (said_of_case self.old verbs.Query text.now) self.old self.new) }
+        ensures { IfOk result (SaysOfCase (said_of_case self.old verbs.Query text.now) self.old self.new) }
     {
         let Some(bytes) = spelled(alloc, text)? else {
             return Ok(false);
@@ -189,7 +189,7 @@ impl Case {
     }
 
     fn limit_pieces(&mut self, limit: Option<u64>) -> bool
-        ensures { Says (with_pieces self.old limit) self.old self.new result }
+        ensures { SaysOfCase (with_pieces self.old limit) self.old self.new result }
     {
         match limit {
             Some(limit) if limit > 0 => {
@@ -201,7 +201,7 @@ impl Case {
     }
 
     fn say_failing(&mut self, text: &[u8]) -> Result<bool, NoMemory>
-        ensures { IfOk result (Says (said_of_case self.old verbs.Fails text.now) self.old self.new) }
+        ensures { IfOk result (SaysOfCase (said_of_case self.old verbs.Fails text.now) self.old self.new) }
     {
         let (object, call) = cut_word(text);
         let (Some(object), Some(call)) = (object_of(object), number_of(call)) else {

@@ -3,7 +3,7 @@
 ghost use Rattle.std.specs.Prelude.{◌≡◌, ◌++◌, ◌<◌, true, IfOk, OnOk};
 ghost use Rattle.cj_cases.specs.Lines.{items_of};
 ghost use Rattle.cj_cases.specs.Spellings as spec;
-ghost use Rattle.cj_cases.specs.Spellings.{IsPlace, StepsToPlace};
+ghost use Rattle.cj_cases.specs.Spellings.{IsDigitAt, StepsToPlace};
 
 use cj_model::NoMemory;
 use std::alloc::Global;
@@ -49,7 +49,7 @@ fn digit_byte(n: u8) -> u8
 }
 
 fn next_step(place: Place, b: u8) -> Step
-    requires { IsPlace place }
+    requires { IsDigitAt place }
     ensures step { result ≡ spec.next_step place b }
     ensures place { StepsToPlace result }
 {

@@ -1,5 +1,5 @@
 -- The names that answers of this crate cite, its own lemmas among them, passed on from one place. Declares nothing.
-pub use Rattle.cj_core.proofs.Common.{both_ways, Answer, AnswersLookUp, Apply, Balance, AreCalledFor, AreCurrent, AreEmpty, AreHolding, AskError, Asked, Asks, BookError, CacheState, Call, CanServe, CellState, Core, Entry, EntryEnded, Event, FitsTx, HasRun, IsEntryNumber, IsFresh, IsFreshAnswer, IsLegal, IsPrefix, KeepsItems, LOG_FAULT, Layout, LogFailed, LogItem, LogView, LogsInToAsk, LosesNothing, Made, Move, OpensTo, Placement, Refusal, Refused, RepliesKept, SeatedCell, Select, SoloState, SoloSteps, StandsBetweenCalls, WorldState, WorldTurn, abort_entry, accounts_of, after_look, all_looked, answer_kept, ask, asked_core, asked_reply, started_backend, board_id, cache_answered, call_of, core_scheduled, database_after, database_of, desk_of, desk_tx, failed_asked, faults_after, faults_of, given_of, happened, idle_opening, in_mask, is_enabled, is_free, is_some, items_of, kept_looked, last_number, length-map, list_all, log, log_faults_after, login_of, logins_of, map_push, next_call, not_now, open_user, opened_core, own_entry, placement_of, position_at, query_skipped, request_of, reverse-append, state_by, states_of, take-length, take_all, read_over, tx_after_write, with_answer, with_balance, with_cache, with_core, with_entry, with_request_counted}
+pub use Rattle.cj_core.proofs.Common.{both_ways, Answer, AnswersLookUp, Apply, Balance, AreCalledFor, AreCurrent, AreEmpty, AreHolding, AskError, Asked, Asks, BookError, CacheState, Call, CanServe, CellState, Core, Entry, EntryEnded, Event, FitsTx, HasRun, IsEntryNumber, IsFresh, IsFreshAnswer, IsLegal, IsPrefix, KeepsItems, LOG_FAULT, Layout, LogFailed, LogItem, LogView, AskedUnderLogin, LosesNothing, Made, Move, OpensTo, Placement, Refusal, Refused, RepliesKept, SeatedCell, Select, SoloState, SoloSteps, StandsBetweenCalls, WorldState, WorldTurn, abort_entry, accounts_of, after_look, all_looked, answer_kept, ask, asked_core, asked_reply, started_backend, board_id, cache_answered, call_of, core_scheduled, database_after, database_of, desk_of, desk_tx, failed_asked, faults_after, faults_of, given_of, happened, idle_opening, in_mask, is_enabled, is_free, is_some, items_of, kept_looked, last_number, length-map, list_all, log, log_faults_after, login_of, logins_of, map_push, next_call, not_now, open_user, opened_core, own_entry, placement_of, position_at, query_skipped, request_of, reverse-append, state_by, states_of, take-length, take_all, read_over, tx_after_write, with_answer, with_balance, with_cache, with_core, with_entry, with_request_counted}
 pub use Rattle.cj_core.proofs.Leaving.{Leaving, are_current, are_holding, leaving_first, leaving_last, leaving_more, leaving_room, left_seen}
 pub use Rattle.cj_core.proofs.Making.{Making, making_legal, making_longer, making_met, making_more, making_none, making_part, making_run}
 pub use Rattle.cj_core.proofs.SoloAsks.{called_one, one_answered, one_failed}

@@ -70,10 +70,10 @@ pub use Rattle.cj_cluster.specs.Moves.Cores.{begun_at}
 pub use Rattle.cj_model.specs.Cluster.Balancing.{Balance}
 pub use Rattle.cj_state.specs.Asking.{PicksFirst, asks_of, asks_with, read_over}
 pub use Rattle.cj_state.specs.Beginnings.{AreEmpty, AreFresh, IsFresh, opened_core}
-pub use Rattle.cj_state.specs.CalledLogins.{CallsUnder, LogsInToAsk, LogsInToTake, MayCallUnder, login_to_take, logins_of, next_user}
+pub use Rattle.cj_state.specs.CalledLogins.{CallsUnder, AskedUnderLogin, LogsInToTake, MayCallUnder, login_to_take, logins_of, next_user}
 pub use Rattle.cj_state.specs.Effects.{Asks, SchedulesAs, asked_core, failed_asked, core_aborted, core_scheduled, own_entry, with_core}
 pub use Rattle.cj_state.specs.Seats.{AreCellsAt, states_of}
-pub use Rattle.cj_state.specs.Worlds.{CacheFollowsLog, IsCell, IsSameButLog, IsWorld, LogView, Setup, WorldState, accounts_of, with_balance, with_cache, with_log}
+pub use Rattle.cj_state.specs.Worlds.{CacheFollowsLog, IsCell, IsSameWorldButLog, IsWorld, LogView, Setup, WorldState, accounts_of, with_balance, with_cache, with_log}
 pub use Rattle.cj_state.specs.declared.cells.AskError.{AskError}
 pub use Rattle.std.proofs.Math.Seq.{take-append-add, take-length}
 pub use Rattle.std.proofs.lemmas.Bool.{and_from, or_parts, false_from_ne_true, and_parts, both_ways, cases_eq, cases_lt, cond-false, cond_both, eq-eqb, eqb-true, ne_eqb}

@@ -1,6 +1,6 @@
 -- How a list of moves comes from move to move.
 use Rattle.std.proofs.Common.{◌≡◌, ℕ, ◌+◌, ◌<◌, ◌≤◌, ◌^◌, Bool, List, [], ◌∷◌, ◌++◌, length, map, take, get_or, All, refl, ap, sym, ◌∙◌, subst, arith}
-use Rattle.cj_core.proofs.Common.{All-get_or, All-take, blamed, CanCountRequests, Core, faults_after, faults_of, faults_over, given_of, HasRun, HasRunInPart, HaveCauses, IsLegal, IsMoveOfCluster, IsPrefix, IsSameButLog, IsWorld}
+use Rattle.cj_core.proofs.Common.{All-get_or, All-take, blamed, CanCountRequests, Core, faults_after, faults_of, faults_over, given_of, HasRun, HasRunInPart, HaveCauses, IsLegal, IsMoveOfCluster, IsPrefix, IsSameWorldButLog, IsWorld}
 use Rattle.cj_core.proofs.Common.{length-take-le, log_faults_after, log_faults_over, Made, map_push, Move, MoveResult, MovesWorld, Placement, Read, RunsMoves, RunsWorld, Schedule, session_at, take_more, tells_log_fault, WorldState}
 use Rattle.cj_cluster.proofs.Growth.{Grows, can_count, runs_push, runs_grow, runs_sound}
 use Rattle.cj_cluster.proofs.Chains.{run_chained}
@@ -105,5 +105,5 @@ module _ (tells armable : Bool) (old : WorldState) (moves : List Move) (n : ℕ)
       (subst (λ (p : Placement). IsMoveOfCluster p.backends m) (sym grown.placement) here, can_ask now.core (can_count (length (take n moves)) 1 old.core now.core grown room) m)
 
   -- no more of them are, where the next one left at most bytes behind the items of the log
-  pub making_part : (new : WorldState) → IsSameButLog now new → new.recovery_log.faults ≡ now.recovery_log.faults → HasRunInPart tells armable old moves new
+  pub making_part : (new : WorldState) → IsSameWorldButLog now new → new.recovery_log.faults ≡ now.recovery_log.faults → HasRunInPart tells armable old moves new
   making_part new same log_faults = record { count = n; within = within; given = map given_of came; stopped = now; run = making_run; same = same; log_faults = log_faults }

@@ -1,7 +1,7 @@
 -- Under which logins the calls of a session's request reach the backends.
 use Rattle.std.proofs.Common.{◌≡◌, ◌⊎◌, inl, inr, ℕ, zero, suc, List, [], ◌∷◌, slice_get, set, Option, Some, Result, Ok, Err, refl, ap, sym, ◌∙◌, ⊎_elim}
 use Rattle.cj_model.specs.declared.account.Account.{Account}
-use Rattle.cj_core.proofs.Common.{AreCalledFor, Asked, AskError, CallsUnder, Did, login_of, LogsInToAsk, LogsInToTake, MayCallUnder}
+use Rattle.cj_core.proofs.Common.{AreCalledFor, Asked, AskError, CallsUnder, Did, login_of, AskedUnderLogin, LogsInToTake, MayCallUnder}
 use Rattle.cj_cluster.specs.declared.moves.Did.TheVariants as did
 use Rattle.cj_state.specs.declared.cells.AskError.TheVariants as errors
 
@@ -35,7 +35,7 @@ module _ (accounts : List Account) (user : List ℕ) where
   called_to_take b did.Skipped old new logs = called_none old new logs
   called_to_take b _ old new logs = may_be_called b old new logs
 
-  pub called_to_ask : (b : ℕ) (r : Result (Asked × ℕ) AskError) (old new : List (Option (List ℕ))) → LogsInToAsk b (login_of accounts user b) r old new → AreCalledFor accounts user old new
+  pub called_to_ask : (b : ℕ) (r : Result (Asked × ℕ) AskError) (old new : List (Option (List ℕ))) → AskedUnderLogin b (login_of accounts user b) r old new → AreCalledFor accounts user old new
   called_to_ask b (Ok answered) old new logs = called_under b old new logs
   called_to_ask b (Err errors.Failed) old new logs = may_be_called b old new logs
   called_to_ask b (Err (errors.Unnoted n)) old new logs = may_be_called b old new logs

@@ -2,7 +2,7 @@
 use Rattle.std.proofs.Common.{◌≡◌, ◌⊎◌, inl, inr, ℕ, suc, ◌+◌, ◌<◌, ◌≤◌, ◌==◌, ◌&&◌, Bool, true, false, cond, is_some, List, [], ◌∷◌, ◌++◌, length, slice_get, Option, Some, Ok, Err, refl, ap, sym, ◌∙◌, subst, ⊎_elim, append_assoc, length-append, arith}
 use Rattle.cj_core.proofs.Common.{accounts_of, Act, act_of, act_of_request, AddsEntry, AddsOwnEvents, All-nil, answered_at, AnswersEntry, append-nil, AreBackendsOf, AreCalledFor, Call, call_of, Core, CoreInvariant, Ended, ended_for, Entry, open_entry_of, entry_of_call, EntryEnded}
 use Rattle.cj_core.proofs.Common.{EntryRefused, EntryScheduled, eq-eqb, Event, events_left, faults_counted, faults_of, FitsTx, follows_own, follows_rest, free-ended, free-same, free-sched, happened, HasNoRoomFor, HasServer, is_entry_of, is_free}
-use Rattle.cj_core.proofs.Common.{is_open, is_open-with, is_waiting, IsOutcome, IsReadAtEnd, IsSameButLog, last_number, legal_push, log, log-sched, log_failed_in, log_failure_of, LOG_FAULT, log_faults_after, LogFailed, logins_of, LogView, mask_with, ne_eqb, open_tx, open_user}
+use Rattle.cj_core.proofs.Common.{is_open, is_open-with, is_waiting, IsOutcome, IsReadAtEnd, IsSameWorldButLog, last_number, legal_push, log, log-sched, log_failed_in, log_failure_of, LOG_FAULT, log_faults_after, LogFailed, logins_of, LogView, mask_with, ne_eqb, open_tx, open_user}
 use Rattle.cj_core.proofs.Common.{asks_of, at_log_end, CallsBackends, CallsExactly, CarriesOut, CellState, enabled-push, false_from_ne_true, find_session, is_enabled, is_masked, IsBeforeEnd, IsPartOf, login_of, position_at, session_of-other, takes_part_in}
 use Rattle.cj_core.proofs.Common.{cond_both, opened-sched, OpenSession, option_map_or, Outcome, outcome_reply, own_entry, own_tx, Placement, prefix_self, Refusal, refusal_of_code, Refused, Reply, request_of, Rests, Sched, scheduled_as, SchedulesAs, SchedulesOrRefuses, seen_at, session_at}
 use Rattle.cj_core.proofs.Common.{session_owes, SessionView, StandsBetweenCalls, tells_log_failure, Turn, turn_full, turn_log_fault, turn_starved, turn_unserved, with_cache, with_core, with_one_request, with_request_counted, WorldState, WorldTurn}
@@ -52,7 +52,7 @@ module _ (tells : Bool) (s tx : ℕ) (user : List ℕ) (act : Act) (reply : Repl
   entry = entry_of_call s call act
 
   module _ (did : SchedulesAs old.core entry (Ok n)) (scheduled : EntryScheduled s entry old begun) where
-    after : IsSameButLog (with_cache (with_core old (scheduled_as old.core s entry)) begun.cache) begun
+    after : IsSameWorldButLog (with_cache (with_core old (scheduled_as old.core s entry)) begun.cache) begun
     after = scheduled.after
 
     begun_core : begun.core ≡ scheduled_as old.core s entry

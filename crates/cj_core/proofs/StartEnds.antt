@@ -2,12 +2,12 @@
 use Rattle.std.proofs.Common.{◌≡◌, ◌≢◌, inl, inr, ℕ, ◌+◌, ◌-◌, ◌<◌, ◌≤◌, ◌==◌, ◌&&◌, ◌||◌, not, Bool, true, false, cond, List, [], ◌∷◌, ◌++◌, length, get_or, slice_get, Option, None, Some, is_some, refl, ap, sym, ◌∙◌, subst, arith, append_assoc, append-nil, length-append, ⊎_elim}
 use Rattle.cj_core.proofs.Common.{abort_entry, AbortsEach, all_at_end, AllStand, answered_at, AreStanding, cases_eq, cond-false, Core, enabled-push, Ended, ended_for, EndedTo, EndedWhere, Entry, open_entry_of, entry_numbered, Event}
 use Rattle.cj_core.proofs.Common.{faults_of, filter, filter_map-append, filter_of_map_range_with_len_more, find_session, first_lagging, free-ended, free-sched, get_left, has-zero, in_mask, is_enabled, is_entry_of, is_free, is_open, is_orphan}
-use Rattle.cj_core.proofs.Common.{is_orphan_of, is_there, is_waiting, IsSameButLog, IsSameCluster, IsWorld, last_number, log, log-same, log-sched, map-id, ne_eqb, OnlyTakes, opened-sched, OpenSession, position_at, range_with_len, Sched, scheduled_entry, slice_get-get_or}
+use Rattle.cj_core.proofs.Common.{is_orphan_of, is_there, is_waiting, IsSameWorldButLog, IsSameCluster, IsWorld, last_number, log, log-same, log-sched, map-id, ne_eqb, OnlyTakes, opened-sched, OpenSession, position_at, range_with_len, Sched, scheduled_entry, slice_get-get_or}
 use Rattle.cj_core.proofs.Common.{StandsAfterStart, StandsBefore, StandsBehind, TakesPast, TransactionEnded, tx_of, tx_of_end, tx_of_end_other, with_abort, with_core, with_entry, with_session, WorldState}
 
 -- ---- one transaction
 
-module _ (tx : ℕ) (old sched : WorldState) (came : IsSameButLog (with_core old (with_entry old.core (abort_entry old.core tx))) sched) where
+module _ (tx : ℕ) (old sched : WorldState) (came : IsSameWorldButLog (with_core old (with_entry old.core (abort_entry old.core tx))) sched) where
   abbrev entry : Entry
   entry = abort_entry old.core tx
 

@@ -2,7 +2,7 @@
 use Rattle.std.proofs.Common.{◌≡◌, ◌⊎◌, inl, inr, ℕ, ◌+◌, Bool, false, List, [], ◌∷◌, ◌++◌, length, map, Result, Ok, Err, refl, ap, sym, ◌∙◌, subst, append_assoc}
 use Rattle.cj_core.proofs.Common.{AbortsEach, CountsFaultOfPart, CountsFaultOfStart, Enabled, Ended, Event, fold, HasStarted, IsErrAnd, IsLonger, IsOpening, IsPrefix, items_append, items_behind, items_of, KeepsItems, log, LogItem}
 use Rattle.cj_core.proofs.Common.{LosesNothing, Marker, next, OpensTo, Placement, prefix_trans, RefusesBytes, Sched, StartError, with_abort, WorldState}
-use Rattle.cj_book.proofs.Common.{IsKeptIn, Starts, failed_after, fold-append, last_write_failed}
+use Rattle.cj_book.proofs.Common.{IsKeptIn, Starts, log_failed_after, fold-append, last_write_failed}
 use Rattle.cj_book.specs.declared.error.StartError.TheVariants as errors
 
 -- ---- from part to part
@@ -55,15 +55,15 @@ opening_well (Sched e ∷ Ended f s ∷ h) o = opening_well h o.2
 opening_well (Marker name m ∷ h) o = opening_well h o
 opening_well _ o = absurd o
 
-enabled_well : (bs : List ℕ) (failed : Bool) → fold failed_after failed (map Enabled bs) ≡ failed
+enabled_well : (bs : List ℕ) (failed : Bool) → fold log_failed_after failed (map Enabled bs) ≡ failed
 enabled_well [] failed = refl
 enabled_well (b ∷ bs) failed = enabled_well bs failed
 
 aborts_well : (h : List Event) (txs : List ℕ) (z : List Event) → last_write_failed h ≡ false → AbortsEach h txs z → last_write_failed z ≡ false
 aborts_well h [] z well is = rw is well
-aborts_well h (tx ∷ txs) z well (failed, rest) = aborts_well (with_abort h tx failed) txs z (fold-append failed_after false h (Sched _ ∷ Ended failed 0 ∷ [])) rest
+aborts_well h (tx ∷ txs) z well (failed, rest) = aborts_well (with_abort h tx failed) txs z (fold-append log_failed_after false h (Sched _ ∷ Ended failed 0 ∷ [])) rest
 
 pub started_well : (items : List LogItem) (p : Placement) (opening : List Event) (faults : List ℕ) (w : WorldState) → OpensTo items opening → HasStarted p opening faults w → last_write_failed w.core.history ≡ false
 started_well items p opening faults w opens s =
     aborts_well (opening ++ map Enabled s.enabled) _ w.core.history
-    (fold-append failed_after false opening (map Enabled s.enabled) ∙ (enabled_well s.enabled (last_write_failed opening) ∙ opening_well opening opens.opening)) s.history
+    (fold-append log_failed_after false opening (map Enabled s.enabled) ∙ (enabled_well s.enabled (last_write_failed opening) ∙ opening_well opening opens.opening)) s.history

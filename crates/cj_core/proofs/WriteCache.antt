@@ -1,12 +1,12 @@
 -- What entries make of the result cache.
 use Rattle.std.proofs.Common.{◌≡◌, ℕ, Bool, cond, ◌==◌, List, inl, refl, ap, sym, ◌∙◌, subst}
-use Rattle.cj_core.proofs.Common.{CacheFollowsLog, CacheState, cond_both, Core, Ended, Entry, EntryEnded, EntryRefused, follows_abort, follows_same, FollowsLog, happened, IsSameButLog, log, log-same, log-sched, LOG_FAULT, LogFailed, Refusal, refusal_of_code, Reply}
+use Rattle.cj_core.proofs.Common.{CacheFollowsLog, CacheState, cond_both, Core, Ended, Entry, EntryEnded, EntryRefused, follows_abort, follows_same, FollowsLog, happened, IsSameWorldButLog, log, log-same, log-sched, LOG_FAULT, LogFailed, Refusal, refusal_of_code, Reply}
 use Rattle.cj_core.proofs.Common.{with_cache, with_core, with_entry, with_log, with_request_counted, WorldState}
 use Rattle.cj_model.specs.declared.request.Act.TheVariants as act
 
 -- the whole world, from its core, its cache and its log
-module _ (old new : WorldState) (core : Core) (same : IsSameButLog (with_cache (with_core old new.core) new.cache) new) (core_is : new.core ≡ core) where
-  pub with_same_cache : new.cache ≡ old.cache → IsSameButLog (with_core old core) new
+module _ (old new : WorldState) (core : Core) (same : IsSameWorldButLog (with_cache (with_core old new.core) new.cache) new) (core_is : new.core ≡ core) where
+  pub with_same_cache : new.cache ≡ old.cache → IsSameWorldButLog (with_core old core) new
   with_same_cache cache =
       same
       ∙ (ap (λ (k : Core). with_log (with_cache (with_core old k) new.cache) new.recovery_log) core_is
@@ -17,15 +17,15 @@ pub refused_cache : (old new : WorldState) (s q : ℕ) → new.core ≡ happened
 refused_cache old new s q core = follows_same (log old.core.history) (log new.core.history) old.cache new.cache (ap (λ (c : Core). log c.history) core ∙ log-same old.core.history (LogFailed s q) refl)
 
 -- and is refused as such
-pub refused_after : (old new : WorldState) (e : Entry) (refusal : Refusal) → refusal ≡ refusal_of_code LOG_FAULT → new.core ≡ happened old.core (LogFailed e.session e.seq) → IsSameButLog (with_cache (with_core old new.core) new.cache) new → CacheFollowsLog old new
-    → IsSameButLog (with_core old (cond (refusal.code == LOG_FAULT) (happened old.core (LogFailed e.session e.seq)) old.core)) new
+pub refused_after : (old new : WorldState) (e : Entry) (refusal : Refusal) → refusal ≡ refusal_of_code LOG_FAULT → new.core ≡ happened old.core (LogFailed e.session e.seq) → IsSameWorldButLog (with_cache (with_core old new.core) new.cache) new → CacheFollowsLog old new
+    → IsSameWorldButLog (with_core old (cond (refusal.code == LOG_FAULT) (happened old.core (LogFailed e.session e.seq)) old.core)) new
 refused_after old new e refusal is core same follows =
     let failed : Core = happened old.core (LogFailed e.session e.seq) in
     with_same_cache old new failed same core (refused_cache old new e.session e.seq core follows)
     ∙ ap (λ (r : Refusal). with_log (with_core old (cond (r.code == LOG_FAULT) failed old.core)) new.recovery_log) (sym is)
 
 -- the end of a transaction by the administrator leaves it
-pub aborted_after : (old new : WorldState) (e : Entry) → e.act ≡ act.Abort → new.core ≡ with_entry old.core e → IsSameButLog (with_cache (with_core old new.core) new.cache) new → CacheFollowsLog old new → IsSameButLog (with_core old (with_entry old.core e)) new
+pub aborted_after : (old new : WorldState) (e : Entry) → e.act ≡ act.Abort → new.core ≡ with_entry old.core e → IsSameWorldButLog (with_cache (with_core old new.core) new.cache) new → CacheFollowsLog old new → IsSameWorldButLog (with_core old (with_entry old.core e)) new
 aborted_after old new e aborts core same follows =
     with_same_cache old new (with_entry old.core e) same core
     (follows_abort (log old.core.history) (log new.core.history) old.cache new.cache e aborts (ap (λ (c : Core). log c.history) core ∙ log-sched old.core.history e) follows)

@@ -7,7 +7,7 @@ use Rattle.cj_cluster.specs.declared.moves.MoveError.TheVariants.{NotNow}
 use Rattle.cj_cluster.specs.Moves.Moves.{MoveResult, MovesTo}
 use Rattle.cj_cluster.specs.History.Turns.{SessionView}
 use Rattle.cj_cluster.specs.Moves.Runs.{RunsMoves, IsBetweenReplies, IsChained}
-use Rattle.cj_state.specs.Worlds.{WorldState, IsSameButLog}
+use Rattle.cj_state.specs.Worlds.{WorldState, IsSameWorldButLog}
 use Rattle.cj_state.specs.Faults.{faults_of, faults_after}
 use Rattle.cj_moves.specs.Armings.{HasArmings}
 use Rattle.cj_moves.specs.Counting.{HasCauses, HasLogCauses, blamed, log_faults_after, tells_log_fault}
@@ -67,5 +67,5 @@ pub record HasRunInPart (tells armable : Bool) (old : WorldState) (moves : List 
   pub given : List MoveResult
   pub stopped : WorldState
   pub run : HasRun tells armable old (take count moves) given stopped
-  pub same : IsSameButLog stopped new
+  pub same : IsSameWorldButLog stopped new
   pub log_faults : new.recovery_log.faults ≡ stopped.recovery_log.faults

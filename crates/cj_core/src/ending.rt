@@ -5,7 +5,7 @@ ghost use Rattle.cj_cluster.specs.History.Histories.{is_free};
 ghost use Rattle.cj_cluster.specs.Moves.Moves as moves;
 ghost use Rattle.cj_cluster.specs.Moves.Moves.{abort_entry, with_entry};
 ghost use Rattle.cj_state.specs.Effects.{with_core};
-ghost use Rattle.cj_state.specs.Worlds.{IsSameButLog};
+ghost use Rattle.cj_state.specs.Worlds.{IsSameWorldButLog};
 ghost use Rattle.cj_core.specs.Proving.StartParts.{AreStanding, CountsFaultOfPart, EndedTo, EndedWhere, IsLonger, IsUntouched, OnlyTakes, TakesPast, TransactionEnded};
 
 use crate::replaying::unless_starved;
@@ -19,7 +19,7 @@ use cj_state::State;
 fn schedule_end<B: Backend, S: Store>(state: &mut State<B, S>, tx: u64) -> Result<(), StartError>
     requires orphan { moves.is_orphan state.old.core tx ≡ true }
     requires free { is_free state.old.core.history ≡ true }
-    ensures ok { OnOk result (IsSameButLog (with_core state.old (with_entry state.old.core (abort_entry state.old.core tx))) state.new) }
+    ensures ok { OnOk result (IsSameWorldButLog (with_core state.old (with_entry state.old.core (abort_entry state.old.core tx))) state.new) }
     ensures longer { IsLonger state.old state.new }
     ensures cause { CountsFaultOfPart state.old.recovery_log.faults result state.new.recovery_log.faults }
 {

@@ -8,7 +8,7 @@ ghost use Rattle.cj_cluster.specs.Moves.Runs.{IsMoveOfCluster, CanCountRequests}
 ghost use Rattle.cj_moves.specs.Armings.{HasArmings};
 ghost use Rattle.cj_moves.specs.Counting.{HasCauses, HasLogCauses};
 ghost use Rattle.cj_moves.specs.Logins.{HasLogins};
-ghost use Rattle.cj_state.specs.Worlds.{IsSameButLog};
+ghost use Rattle.cj_state.specs.Worlds.{IsSameWorldButLog};
 ghost use Rattle.cj_core.specs.Played.{given_of, HasRun, HasRunInPart};
 ghost use Rattle.cj_moves.specs.Steps.{IsMet};
 
@@ -29,7 +29,7 @@ pub fn make<B: Backend, S: Store>(state: &mut State<B, S>, m: Move) -> Result<Ma
     ensures log_causes { IfOk result (λ made. HasLogCauses state.old state.new m (given_of made)) }
     ensures armings { IfOk result (λ made. HasArmings B.can_be_armed state.old state.new m (given_of made)) }
     ensures logins { IfOk result (λ made. HasLogins state.old state.new m (given_of made)) }
-    ensures want { OnErr result (IsSameButLog state.old state.new) }
+    ensures want { OnErr result (IsSameWorldButLog state.old state.new) }
     ensures log_want { OnErr result (state.new.recovery_log.faults ≡ state.old.recovery_log.faults) }
     ensures setup { state.new.setup ≡ state.old.setup }
 {
@@ -52,7 +52,7 @@ fn make_copy<B: Backend, S: Store>(
     ensures log_causes { IfOk result (λ made. HasLogCauses state.old state.new m.now (given_of made)) }
     ensures armings { IfOk result (λ made. HasArmings B.can_be_armed state.old state.new m.now (given_of made)) }
     ensures logins { IfOk result (λ made. HasLogins state.old state.new m.now (given_of made)) }
-    ensures want { OnErr result (IsSameButLog state.old state.new) }
+    ensures want { OnErr result (IsSameWorldButLog state.old state.new) }
     ensures log_want { OnErr result (state.new.recovery_log.faults ≡ state.old.recovery_log.faults) }
     ensures setup { state.new.setup ≡ state.old.setup }
 {

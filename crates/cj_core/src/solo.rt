@@ -18,7 +18,7 @@ ghost use Rattle.cj_moves.specs.Armings.{HasArmings};
 ghost use Rattle.cj_moves.specs.Caches.{HasCacheAfter};
 ghost use Rattle.cj_moves.specs.Counting.{HasCauses, HasLogCauses};
 ghost use Rattle.cj_state.specs.Effects.{with_core};
-ghost use Rattle.cj_state.specs.Worlds.{accounts_of, CacheFollowsLog, IsSameButLog};
+ghost use Rattle.cj_state.specs.Worlds.{accounts_of, CacheFollowsLog, IsSameWorldButLog};
 ghost use Rattle.cj_moves.specs.Logins.{HasLogins};
 ghost use Rattle.cj_core.specs.Proving.SoloParts.{call_of};
 ghost use Rattle.cj_core.specs.Solos.{desk_of, AddsEntry, IsMoveOfNoSession, ReadsWithCache, SoloSteps, StandsBetweenCalls, WorldTurn};
@@ -169,7 +169,7 @@ impl<B: Backend, S: Store> Solo<B, S> {
         ensures log_causes { HasLogCauses self.old.world self.new.world m result }
         ensures armings { HasArmings B.can_be_armed self.old.world self.new.world m result }
         ensures logins { HasLogins self.old.world self.new.world m result }
-        ensures want { IsErrOf result MoveError.NoMemory → IsSameButLog self.old.world self.new.world }
+        ensures want { IsErrOf result MoveError.NoMemory → IsSameWorldButLog self.old.world self.new.world }
         ensures setup { self.new.world.setup ≡ self.old.world.setup }
         ensures cache { HasCacheAfter self.old.world self.new.world m }
         ensures session { self.new.session ≡ self.old.session }

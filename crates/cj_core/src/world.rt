@@ -21,7 +21,7 @@ ghost use Rattle.cj_cluster.specs.History.Histories.{is_free};
 ghost use Rattle.cj_cluster.specs.Moves.Cores.{position_at};
 ghost use Rattle.cj_cluster.specs.Moves.Moves as moves;
 ghost use Rattle.cj_place.specs.Layouts.{placement_of};
-ghost use Rattle.cj_state.specs.Worlds.{IsFresh, IsSameButLog, IsWorld, KeepsHistory};
+ghost use Rattle.cj_state.specs.Worlds.{IsFresh, IsSameWorldButLog, IsWorld, KeepsHistory};
 
 use crate::emptied::Emptied;
 use crate::runs::{make, run};
@@ -113,7 +113,7 @@ impl<B: Backend, S: Store> World<B, S> {
         ensures armings { HasArmings B.can_be_armed self.old self.new m result }
         ensures logins { HasLogins self.old self.new m result }
         ensures armed { result ≡ Ok Moved.Armed → ArmsCell B.can_be_armed self.old.cells m self.new.cells }
-        ensures want { IsErrOf result MoveError.NoMemory → IsSameButLog self.old self.new }
+        ensures want { IsErrOf result MoveError.NoMemory → IsSameWorldButLog self.old self.new }
         ensures setup { self.new.setup ≡ self.old.setup }
         ensures cache { HasCacheAfter self.old self.new m }
     {
@@ -128,7 +128,7 @@ impl<B: Backend, S: Store> World<B, S> {
         ensures log_causes { IfOk result (λ made. HasLogCauses self.old self.new m (given_of made)) }
         ensures armings { IfOk result (λ made. HasArmings B.can_be_armed self.old self.new m (given_of made)) }
         ensures logins { IfOk result (λ made. HasLogins self.old self.new m (given_of made)) }
-        ensures want { OnErr result (IsSameButLog self.old self.new) }
+        ensures want { OnErr result (IsSameWorldButLog self.old self.new) }
         ensures log_want { OnErr result (self.new.recovery_log.faults ≡ self.old.recovery_log.faults) }
         ensures setup { self.new.setup ≡ self.old.setup }
     {

@@ -5,7 +5,7 @@ use Rattle.cj_dump.proofs.Common.{All, All-head, All-tail, DumpError, IsTotalOrd
 use Rattle.cj_model.proofs.Fields.{bind_ok, ok_is, done}
 use Rattle.cj_codec.specs.Fields.{name}
 use Rattle.cj_dump.specs.DumpLayout.{last_of, rises_above, covered, covers_count, covers}
-use Rattle.cj_dump.specs.Layouts.{Reading, field, listed, listed_reads}
+use Rattle.cj_dump.specs.Layouts.{FieldReading, field, listed, listed_reads}
 use Rattle.cj_dump.proofs.LayoutLaws.{found_ok}
 use Rattle.cj_dump.proofs.Rising.{above, rises_from, all_rise}
 
@@ -39,4 +39,4 @@ names_rise (suc n) before place all next h e =
 pub covers_read : (all : Bool) (count : ℕ) (place mid next : Place) (names set : List (List ℕ)) → (field (covers_count all)).reads place ≡ Ok (count, mid) → (listed covered count).reads mid ≡ Ok (names, next) → set ≡ fold (put_by name_cmp) [] names → (covers all).reads place ≡ Ok (set, next)
 covers_read all count place mid next names set e f is =
     let rise : Rises name_cmp names = all_rise name_cmp nat_list_cmp_total names (names_rise count [] mid names next tt f) in
-    ap (λ (r : Reading ℕ). r >>= λ k. (listed covered k.0).reads k.1) e ∙ f ∙ ap (λ (l : List (List ℕ)). done DumpError (l, next)) (sym (is ∙ each_put name_cmp nat_list_cmp_total names rise))
+    ap (λ (r : FieldReading ℕ). r >>= λ k. (listed covered k.0).reads k.1) e ∙ f ∙ ap (λ (l : List (List ℕ)). done DumpError (l, next)) (sym (is ∙ each_put name_cmp nat_list_cmp_total names rise))

@@ -4,7 +4,7 @@ use Rattle.cj_dump.proofs.Common.{BadField, Cut, Dump, DumpError, NoMemory, Orde
 use Rattle.cj_codec.specs.Formats.{AreBytes}
 use Rattle.cj_dump.specs.DumpLayout.{dump}
 use Rattle.cj_dump.specs.Dumps.{dump_bytes, IsDump, start_of, Stops, Decodes, WrittenReadsBack, BytesHaveOneReading}
-use Rattle.cj_dump.specs.Layouts.{Reading, Between, Finds}
+use Rattle.cj_dump.specs.Layouts.{FieldReading, Between, TakesOff}
 use Rattle.cj_dump.proofs.DumpLaws.{dump_law, dump_spelled}
 use Rattle.cj_dump.proofs.Dumped.{fits_dump, dump_fits}
 
@@ -23,7 +23,7 @@ some_left bytes start next d e are from read more is =
     inr (record { dumped = d; next = next; front = subst (λ (t : List ℕ). Between t (start_of bytes) next) (dump_spelled d) p.0; is = fits_dump d p.1; more = more; there = is })
 
 -- a field stopped the reading
-pub stopped : (bytes : List ℕ) (start next : Place) (e : DumpError) (r : Result Dump DumpError) → AreBytes bytes → start ≡ start_of bytes → Finds dump start next (Err e) → r ≡ Err e → Decodes bytes r
+pub stopped : (bytes : List ℕ) (start next : Place) (e : DumpError) (r : Result Dump DumpError) → AreBytes bytes → start ≡ start_of bytes → TakesOff dump start next (Err e) → r ≡ Err e → Decodes bytes r
 stopped bytes start next e r are from found is =
     subst (Decodes bytes) (sym is) (λ some. inl (dump_law.inside (start_of bytes) e are (ap dump.reads (sym from) ∙ found some)))
 
@@ -34,7 +34,7 @@ abbrev ended : Dump → Place → List ℕ → Result Dump DumpError
 ended d next [] = Ok d
 ended d next (b ∷ rest) = Err (BadField (offset next))
 
-abbrev verdict : Reading Dump → Result Dump DumpError
+abbrev verdict : FieldReading Dump → Result Dump DumpError
 verdict (Ok x) = ended x.0 x.1 x.1.rest
 verdict (Err e) = Err e
 

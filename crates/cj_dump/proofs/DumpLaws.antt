@@ -11,7 +11,7 @@ use Rattle.cj_codec.specs.Formats.{Format, IsFormat, such_that}
 use Rattle.cj_codec.proofs.Formats.{such_that_law}
 use Rattle.cj_codec.proofs.Formats as formats
 use Rattle.cj_codec.proofs.Fields.{byte_law, number16_law, number64_law, name_law, value_law, value_same}
-use Rattle.cj_dump.specs.Layouts.{Layout, field, rising_field, followed, pair, listed_bytes}
+use Rattle.cj_dump.specs.Layouts.{FieldLayout, field, rising_field, followed, pair, listed_bytes}
 use Rattle.cj_dump.specs.DumpLayout.{last_of, flag_byte, flag, kind_byte, kind_of_byte, kind, column_name, column, column_count, columns, is_free, free_name, rises_above, key, schema, last_key, column_value, row_value, row, row_count, rows, tx_in, rows_in, transaction, draft_behind, draft, slot_behind, slot, covered, covers_count, covers, slots, dump}
 use Rattle.cj_dump.specs.Dumps.{column_bytes, schema_bytes, rows_bytes, draft_bytes, slot_bytes, names_bytes, db_bytes, dump_bytes}
 use Rattle.cj_dump.proofs.LayoutLaws.{IsLayout, rising_law, field_law, known_law, behind_law, mapped_law, followed_law, pair_law, listed_law, list_law}
@@ -102,7 +102,7 @@ dump_law =
 
 -- ---- bytes
 
-listed_flat : {A : Type 0} (item : List A → Layout A) (spelled : A → List ℕ) → ((before : List A) (x : A) → (item before).bytes x ≡ spelled x) → (before xs : List A) → listed_bytes item before xs ≡ flat_map spelled xs
+listed_flat : {A : Type 0} (item : List A → FieldLayout A) (spelled : A → List ℕ) → ((before : List A) (x : A) → (item before).bytes x ≡ spelled x) → (before xs : List A) → listed_bytes item before xs ≡ flat_map spelled xs
 listed_flat item spelled each before [] = refl
 listed_flat {A} item spelled each before (x ∷ xs) =
     ap (λ (t : List ℕ). t ++ listed_bytes item (before ++ x ∷ []) xs) (each before x)

@@ -6,10 +6,10 @@ use Rattle.cj_model.proofs.Fields.{bind_ok, bind_err, guard_else, guard_else_err
 use Rattle.cj_codec.specs.declared.error.Fault.{Fault}
 use Rattle.cj_codec.specs.declared.error.Fault.TheVariants as faults
 use Rattle.cj_codec.specs.Formats.{Format, AreBytes, IsFormat}
-use Rattle.cj_dump.specs.Layouts.{Reading, Between, Layout, field_stops, field_found, rising_field, field, known, behind, mapped, followed, pair, listed_bytes, listed_fits, listed_stops, listed_reads, listed, list}
+use Rattle.cj_dump.specs.Layouts.{FieldReading, Between, FieldLayout, field_stops, field_found, rising_field, field, known, behind, mapped, followed, pair, listed_bytes, listed_fits, listed_stops, listed_reads, listed, list}
 
 -- What is written reads back, whatever follows it; what is read was written; and reading fails exactly where the bytes stop, for the same reason.
-pub record IsLayout {A : Type 0} (l : Layout A) : Type 0 where
+pub record IsLayout {A : Type 0} (l : FieldLayout A) : Type 0 where
   pub again : (x : A) (place next : Place) → Between (l.bytes x) place next → l.fits x → l.reads place ≡ Ok (x, next)
   pub whole : (place : Place) (x : A) (next : Place) → AreBytes place.rest → l.reads place ≡ Ok (x, next) → Between (l.bytes x) place next × l.fits x
   pub inside : (place : Place) (e : DumpError) → AreBytes place.rest → l.reads place ≡ Err e → l.stops place e
@@ -97,15 +97,15 @@ known_law {A} x = record {
 
 -- ---- one behind another
 
-behind_stopped : {K A : Type 0} (f : Layout K) (key : A → K) (g : K → Layout A) → IsLayout f → ((k : K) → IsLayout (g k)) → (place : Place) (e : DumpError) → (behind f key g).stops place e → (behind f key g).reads place ≡ Err e
-behind_stopped {K} f key g first second place e (inl h) = ap (λ (r : Reading K). r >>= λ k. (g k.0).reads k.1) (first.stopped place e h)
-behind_stopped {K} f key g first second place e (inr h) = ap (λ (r : Reading K). r >>= λ k. (g k.0).reads k.1) (first.again h.0 place h.1 h.2 h.3) ∙ (second h.0).stopped h.1 e h.4
+behind_stopped : {K A : Type 0} (f : FieldLayout K) (key : A → K) (g : K → FieldLayout A) → IsLayout f → ((k : K) → IsLayout (g k)) → (place : Place) (e : DumpError) → (behind f key g).stops place e → (behind f key g).reads place ≡ Err e
+behind_stopped {K} f key g first second place e (inl h) = ap (λ (r : FieldReading K). r >>= λ k. (g k.0).reads k.1) (first.stopped place e h)
+behind_stopped {K} f key g first second place e (inr h) = ap (λ (r : FieldReading K). r >>= λ k. (g k.0).reads k.1) (first.again h.0 place h.1 h.2 h.3) ∙ (second h.0).stopped h.1 e h.4
 
-pub behind_law : {K A : Type 0} (f : Layout K) (key : A → K) (g : K → Layout A) → IsLayout f → ((k : K) → IsLayout (g k)) → ((k : K) (x : A) → (g k).fits x → key x ≡ k) → IsLayout (behind f key g)
+pub behind_law : {K A : Type 0} (f : FieldLayout K) (key : A → K) (g : K → FieldLayout A) → IsLayout f → ((k : K) → IsLayout (g k)) → ((k : K) (x : A) → (g k).fits x → key x ≡ k) → IsLayout (behind f key g)
 behind_law {K} {A} f key g first second keyed = record {
   again = λ x place next w fits.
       let m = middle (f.bytes (key x)) ((g (key x)).bytes x) place next w in
-      ap (λ (r : Reading K). r >>= λ k. (g k.0).reads k.1) (first.again (key x) place (record { rest = (g (key x)).bytes x ++ next.rest; size = place.size }) m.0 fits.0)
+      ap (λ (r : FieldReading K). r >>= λ k. (g k.0).reads k.1) (first.again (key x) place (record { rest = (g (key x)).bytes x ++ next.rest; size = place.size }) m.0 fits.0)
       ∙ (second (key x)).again x (record { rest = (g (key x)).bytes x ++ next.rest; size = place.size }) next m.1 fits.1;
   whole = λ place x next are e.
       let b = bind_ok (f.reads place) (λ k. (g k.0).reads k.1) (x, next) e in
@@ -125,10 +125,10 @@ behind_law {K} {A} f key g first second keyed = record {
 }
 
 -- values of another type
-pub mapped_law : {A B : Type 0} (make : A → B) (parts : B → A) (f : Layout A) → IsLayout f → ((x : A) → f.fits x → parts (make x) ≡ x) → IsLayout (mapped make parts f)
+pub mapped_law : {A B : Type 0} (make : A → B) (parts : B → A) (f : FieldLayout A) → IsLayout f → ((x : A) → f.fits x → parts (make x) ≡ x) → IsLayout (mapped make parts f)
 mapped_law {A} {B} make parts f law back = record {
   again = λ y place next w fits.
-      ap (λ (r : Reading A). r >>= λ x. Ok (make x.0, x.1)) (law.again (parts y) place next w fits.0)
+      ap (λ (r : FieldReading A). r >>= λ x. Ok (make x.0, x.1)) (law.again (parts y) place next w fits.0)
       ∙ ap (λ (z : B). done DumpError (z, next)) fits.1;
   whole = λ place y next are e.
       let b = bind_ok (f.reads place) (λ x. Ok (make x.0, x.1)) (y, next) e in
@@ -141,21 +141,21 @@ mapped_law {A} {B} make parts f law back = record {
   inside = λ place e are err.
       bind_err (λ d. f.stops place d) (f.reads place) (λ x. Ok (make x.0, x.1)) e
       (λ here. law.inside place e are here) (λ x ok never. absurd cc) err;
-  stopped = λ place e h. ap (λ (r : Reading A). r >>= λ x. Ok (make x.0, x.1)) (law.stopped place e h);
+  stopped = λ place e h. ap (λ (r : FieldReading A). r >>= λ x. Ok (make x.0, x.1)) (law.stopped place e h);
 }
 
 -- a value and then another one
-pub followed_law : {A B : Type 0} (f : Layout A) (g : A → Layout B) → IsLayout f → ((x : A) → IsLayout (g x)) → IsLayout (followed f g)
+pub followed_law : {A B : Type 0} (f : FieldLayout A) (g : A → FieldLayout B) → IsLayout f → ((x : A) → IsLayout (g x)) → IsLayout (followed f g)
 followed_law {A} {B} f g first second =
     behind_law f (λ (p : A × B). p.0) (λ x. mapped (λ y. (x, y)) (λ p. p.1) (g x)) first (λ x. mapped_law (λ y. (x, y)) (λ p. p.1) (g x) (second x) (λ y fits. refl))
     (λ x p fits. ap (λ (q : A × B). q.0) (sym fits.1))
 
-pub pair_law : {A B : Type 0} (f : Layout A) (g : Layout B) → IsLayout f → IsLayout g → IsLayout (pair f g)
+pub pair_law : {A B : Type 0} (f : FieldLayout A) (g : FieldLayout B) → IsLayout f → IsLayout g → IsLayout (pair f g)
 pair_law f g first second = followed_law f (λ x. g) first (λ x. second)
 
 -- ---- lists
 
-listed_again : {A : Type 0} (item : List A → Layout A) → ((before : List A) → IsLayout (item before)) → (n : ℕ) (before xs : List A) (place next : Place) → Between (listed_bytes item before xs) place next → length xs ≡ n → listed_fits item before xs → listed_reads item before n place ≡ Ok (before ++ xs, next)
+listed_again : {A : Type 0} (item : List A → FieldLayout A) → ((before : List A) → IsLayout (item before)) → (n : ℕ) (before xs : List A) (place next : Place) → Between (listed_bytes item before xs) place next → length xs ≡ n → listed_fits item before xs → listed_reads item before n place ≡ Ok (before ++ xs, next)
 listed_again {A} item law zero before [] place next w len fits =
     ap (λ (p : Place). done DumpError (before, p)) (nothing_between place next w) ∙ ap (λ (all : List A). done DumpError (all, next)) (sym (append-nil before))
 listed_again item law zero before (x ∷ xs) place next w len fits = absurd (omega (arith, len))
@@ -163,19 +163,19 @@ listed_again item law (suc n) before [] place next w len fits = absurd (omega (a
 listed_again {A} item law (suc n) before (x ∷ xs) place next w len fits =
     let rest : List ℕ = listed_bytes item (before ++ x ∷ []) xs in
     let m = middle ((item before).bytes x) rest place next w in
-    ap (λ (r : Reading A). r >>= λ y. listed_reads item (before ++ y.0 ∷ []) n y.1) ((law before).again x place (record { rest = rest ++ next.rest; size = place.size }) m.0 fits.0)
+    ap (λ (r : FieldReading A). r >>= λ y. listed_reads item (before ++ y.0 ∷ []) n y.1) ((law before).again x place (record { rest = rest ++ next.rest; size = place.size }) m.0 fits.0)
     ∙ listed_again item law n (before ++ x ∷ []) xs (record { rest = rest ++ next.rest; size = place.size }) next m.1 (omega (arith, len)) fits.1
     ∙ ap (λ (all : List A). done DumpError (all, next)) (append_assoc before (x ∷ []) xs)
 
 -- what was read behind those before
-record Read {A : Type 0} (item : List A → Layout A) (n : ℕ) (before : List A) (place : Place) (all : List A) (next : Place) : Type 0 where
+record Read {A : Type 0} (item : List A → FieldLayout A) (n : ℕ) (before : List A) (place : Place) (all : List A) (next : Place) : Type 0 where
   pub items : List A
   pub parts : all ≡ before ++ items
   pub between : Between (listed_bytes item before items) place next
   pub count : length items ≡ n
   pub each : listed_fits item before items
 
-listed_whole : {A : Type 0} (item : List A → Layout A) → ((before : List A) → IsLayout (item before)) → (n : ℕ) (before : List A) (place : Place) (all : List A) (next : Place) → AreBytes place.rest → listed_reads item before n place ≡ Ok (all, next) → Read item n before place all next
+listed_whole : {A : Type 0} (item : List A → FieldLayout A) → ((before : List A) → IsLayout (item before)) → (n : ℕ) (before : List A) (place : Place) (all : List A) (next : Place) → AreBytes place.rest → listed_reads item before n place ≡ Ok (all, next) → Read item n before place all next
 listed_whole {A} item law zero before place all next are e =
     let made : List A × Place = (before, place) in
     subst (λ (z : List A × Place). Read item 0 before place z.0 z.1) (ok_is {E = DumpError} made (all, next) e)
@@ -192,7 +192,7 @@ listed_whole {A} item law (suc n) before place all next are e =
       each = (p.1, q.each);
     }
 
-listed_inside : {A : Type 0} (item : List A → Layout A) → ((before : List A) → IsLayout (item before)) → (n : ℕ) (before : List A) (place : Place) (e : DumpError) → AreBytes place.rest → listed_reads item before n place ≡ Err e → listed_stops item before n place e
+listed_inside : {A : Type 0} (item : List A → FieldLayout A) → ((before : List A) → IsLayout (item before)) → (n : ℕ) (before : List A) (place : Place) (e : DumpError) → AreBytes place.rest → listed_reads item before n place ≡ Err e → listed_stops item before n place e
 listed_inside item law zero before place e are err = absurd cc
 listed_inside {A} item law (suc n) before place e are err =
     bind_err (λ d. listed_stops item before (suc n) place d) ((item before).reads place) (λ x. listed_reads item (before ++ x.0 ∷ []) n x.1) e
@@ -202,14 +202,14 @@ listed_inside {A} item law (suc n) before place e are err =
     inr (x.0, x.1, p.0, p.1, listed_inside item law n (before ++ x.0 ∷ []) x.1 e (bytes_after ((item before).bytes x.0) place x.1 p.0 are) later))
     err
 
-listed_stopped : {A : Type 0} (item : List A → Layout A) → ((before : List A) → IsLayout (item before)) → (n : ℕ) (before : List A) (place : Place) (e : DumpError) → listed_stops item before n place e → listed_reads item before n place ≡ Err e
+listed_stopped : {A : Type 0} (item : List A → FieldLayout A) → ((before : List A) → IsLayout (item before)) → (n : ℕ) (before : List A) (place : Place) (e : DumpError) → listed_stops item before n place e → listed_reads item before n place ≡ Err e
 listed_stopped item law zero before place e h = absurd h
-listed_stopped {A} item law (suc n) before place e (inl h) = ap (λ (r : Reading A). r >>= λ x. listed_reads item (before ++ x.0 ∷ []) n x.1) ((law before).stopped place e h)
+listed_stopped {A} item law (suc n) before place e (inl h) = ap (λ (r : FieldReading A). r >>= λ x. listed_reads item (before ++ x.0 ∷ []) n x.1) ((law before).stopped place e h)
 listed_stopped {A} item law (suc n) before place e (inr h) =
-    ap (λ (r : Reading A). r >>= λ x. listed_reads item (before ++ x.0 ∷ []) n x.1) ((law before).again h.0 place h.1 h.2 h.3)
+    ap (λ (r : FieldReading A). r >>= λ x. listed_reads item (before ++ x.0 ∷ []) n x.1) ((law before).again h.0 place h.1 h.2 h.3)
     ∙ listed_stopped item law n (before ++ h.0 ∷ []) h.1 e h.4
 
-pub listed_law : {A : Type 0} (item : List A → Layout A) (n : ℕ) → ((before : List A) → IsLayout (item before)) → IsLayout (listed item n)
+pub listed_law : {A : Type 0} (item : List A → FieldLayout A) (n : ℕ) → ((before : List A) → IsLayout (item before)) → IsLayout (listed item n)
 listed_law {A} item n law = record {
   again = λ xs place next w fits. listed_again item law n [] xs place next w fits.0 fits.1;
   whole = λ place all next are e.
@@ -219,5 +219,5 @@ listed_law {A} item n law = record {
   stopped = λ place e h. listed_stopped item law n [] place e h;
 }
 
-pub list_law : {A : Type 0} (count : Format ℕ) (item : List A → Layout A) → IsFormat count → ((before : List A) → IsLayout (item before)) → IsLayout (list count item)
+pub list_law : {A : Type 0} (count : Format ℕ) (item : List A → FieldLayout A) → IsFormat count → ((before : List A) → IsLayout (item before)) → IsLayout (list count item)
 list_law count item counts law = behind_law (field count) length (listed item) (field_law count counts) (λ n. listed_law item n law) (λ n xs fits. fits.0)

@@ -4,7 +4,7 @@ use Rattle.std.specs.Option.{option_map_or}
 use Rattle.std.proofs.lemmas.Option.{get_or_from_slice_get, slice_get_within}
 use Rattle.cj_dump.proofs.Common.{All, All-cons, All-head, All-nil, All-tail, All-weaker, IsTotalOrder, Option, Rises, Some, is_lt, slice_get}
 use Rattle.cj_dump.specs.DumpLayout.{last_of}
-use Rattle.cj_dump.specs.Layouts.{Layout, listed_fits}
+use Rattle.cj_dump.specs.Layouts.{FieldLayout, listed_fits}
 
 -- x stands above the one before it
 abbrev pub above : {A : Type 0} → (A → A → Ordering) → Option A → A → Bool
@@ -57,7 +57,7 @@ All-added : {A : Type 0} (P : A → Type 0) (before : List A) (x : A) → All P 
 All-added P [] x all is = All-cons P x [] is all
 All-added P (b ∷ before) x all is = All-cons P b (before ++ x ∷ []) (All-head P b before all) (All-added P before x (All-tail P b before all) is)
 
-pub split : {A : Type 0} (item : List A → Layout A) (P : A → Type 0) (order : A → A → Ordering) → ((before : List A) (x : A) → All P before → (item before).fits x → P x × (above order (last_of before) x ≡ true))
+pub split : {A : Type 0} (item : List A → FieldLayout A) (P : A → Type 0) (order : A → A → Ordering) → ((before : List A) (x : A) → All P before → (item before).fits x → P x × (above order (last_of before) x ≡ true))
     → (before xs : List A) → All P before → listed_fits item before xs → All P xs × rises_from order before xs
 split item P order step before [] seen fits = (All-nil P, tt)
 split item P order step before (x ∷ xs) seen fits =
@@ -65,7 +65,7 @@ split item P order step before (x ∷ xs) seen fits =
     let rest = split item P order step (before ++ x ∷ []) xs (All-added P before x seen here.0) fits.1 in
     (All-cons P x xs here.0 rest.0, (here.1, rest.1))
 
-pub merge : {A : Type 0} (item : List A → Layout A) (P : A → Type 0) (order : A → A → Ordering) → ((before : List A) (x : A) → All P before → P x → above order (last_of before) x ≡ true → (item before).fits x)
+pub merge : {A : Type 0} (item : List A → FieldLayout A) (P : A → Type 0) (order : A → A → Ordering) → ((before : List A) (x : A) → All P before → P x → above order (last_of before) x ≡ true → (item before).fits x)
     → (before xs : List A) → All P before → All P xs → rises_from order before xs → listed_fits item before xs
 merge item P order step before [] seen all r = tt
 merge item P order step before (x ∷ xs) seen all r =

@@ -20,7 +20,7 @@ use Rattle.cj_model.specs.Sql.Lexical.{keyword}
 use Rattle.cj_codec.specs.Fields.{byte, number16, number64, name, value}
 use Rattle.cj_codec.specs.Formats.{Format, such_that}
 use Rattle.cj_codec.specs.Formats as formats
-use Rattle.cj_dump.specs.Layouts.{Layout, field, rising_field, known, behind, mapped, followed, pair, listed, list}
+use Rattle.cj_dump.specs.Layouts.{FieldLayout, field, rising_field, known, behind, mapped, followed, pair, listed, list}
 use Rattle.cj_dump.specs.declared.dump.Dump.{Dump}
 
 -- ---- words
@@ -71,22 +71,22 @@ is_new before name = is_free name && not (is_named before name)
 abbrev pub column_name : List Column → Format (List ℕ)
 column_name before = such_that (is_new before) name
 
-abbrev pub column : List Column → Layout Column
+abbrev pub column : List Column → FieldLayout Column
 column before = mapped (λ p. record { name = p.0; kind = p.1 }) (λ c. (c.name, c.kind)) (pair (field (column_name before)) (field kind))
 
 -- from 1 to the most columns
 abbrev pub column_count : Format ℕ
 column_count = such_that (λ n. nat_le 1 n && nat_le n COLUMN_LIMIT) number16
 
-abbrev pub columns : Layout (List Column)
+abbrev pub columns : FieldLayout (List Column)
 columns = list column_count column
 
 -- the key is at the place of a column
-abbrev pub key : List Column → Layout ℕ
+abbrev pub key : List Column → FieldLayout ℕ
 key cs = field (such_that (λ k. nat_lt k (length cs)) number16)
 
 -- a table, which stands above the one before it, with its columns and its key
-abbrev pub schema : Option (List ℕ) → Layout Schema
+abbrev pub schema : Option (List ℕ) → FieldLayout Schema
 schema before = mapped (λ p. record { table = p.0; columns = p.1.0; key = p.1.1 }) (λ s. (s.table, (s.columns, s.key))) (pair (rising_field free_name (rises_above before)) (followed columns key))
 
 -- ---- rows
@@ -107,17 +107,17 @@ abbrev pub column_value : List Column → ℕ → Format Value
 column_value cs place = such_that (is_of_column cs place) value
 
 -- a value of its column; the one at the key's place rises
-abbrev pub row_value : Schema → Option Value → List Value → Layout Value
+abbrev pub row_value : Schema → Option Value → List Value → FieldLayout Value
 row_value s last before = rising_field (column_value s.columns (length before)) (λ v. not (length before == s.key) || key_rises last v)
 
 -- a value for each column
-abbrev pub row : Schema → List (List Value) → Layout (List Value)
+abbrev pub row : Schema → List (List Value) → FieldLayout (List Value)
 row s before = listed (row_value s (last_key s.key before)) (length s.columns)
 
 abbrev pub row_count : Format ℕ
 row_count = such_that (λ n. nat_le n ROW_LIMIT) number64
 
-abbrev pub rows : Schema → Layout (List (List Value))
+abbrev pub rows : Schema → FieldLayout (List (List Value))
 rows s = list row_count (row s)
 
 -- ---- slots
@@ -134,41 +134,41 @@ abbrev pub transaction : Format ℕ
 transaction = such_that (nat_lt 0) number64
 
 -- a transaction, and its rows in the schema of the table
-abbrev pub draft_fields : Schema → Layout (Option Draft)
+abbrev pub draft_fields : Schema → FieldLayout (Option Draft)
 draft_fields s = mapped (λ p. Some (record { tx = p.0; table = record { schema = s; rows = p.1 } })) (λ d. (tx_in d, rows_in d)) (pair (field transaction) (rows s))
 
-abbrev pub draft_behind : Schema → Bool → Layout (Option Draft)
+abbrev pub draft_behind : Schema → Bool → FieldLayout (Option Draft)
 draft_behind s false = known None
 draft_behind s true = draft_fields s
 
-abbrev pub draft : Schema → Layout (Option Draft)
+abbrev pub draft : Schema → FieldLayout (Option Draft)
 draft s = behind (field flag) is_some (draft_behind s)
 
-abbrev pub slot_behind : Schema → Layout Slot
+abbrev pub slot_behind : Schema → FieldLayout Slot
 slot_behind s = mapped (λ p. record { base = record { schema = s; rows = p.0 }; draft = p.1 }) (λ t. (t.base.rows, t.draft)) (pair (rows s) (draft s))
 
-abbrev pub slot : List Slot → Layout Slot
+abbrev pub slot : List Slot → FieldLayout Slot
 slot before = behind (schema (option_map table_of (last_of before))) (λ s. s.base.schema) slot_behind
 
 -- ---- dumps
 
-abbrev pub covered : List (List ℕ) → Layout (List ℕ)
+abbrev pub covered : List (List ℕ) → FieldLayout (List ℕ)
 covered before = rising_field name (rises_above (last_of before))
 
 -- none are named where all are covered
 abbrev pub covers_count : Bool → Format ℕ
 covers_count all = such_that (λ n. not all || n == 0) number64
 
-abbrev pub covers : Bool → Layout (List (List ℕ))
+abbrev pub covers : Bool → FieldLayout (List (List ℕ))
 covers all = list (covers_count all) covered
 
-abbrev pub slots : Layout (List Slot)
+abbrev pub slots : FieldLayout (List Slot)
 slots = list number64 slot
 
 abbrev pub DumpFields : Type 0
 DumpFields = ℕ × (ℕ × (List ℕ × ((Bool × List (List ℕ)) × List Slot)))
 
-abbrev pub dump : Layout Dump
+abbrev pub dump : FieldLayout Dump
 dump = mapped
     (λ p. record { position = p.0; source = p.1.0; name = p.1.1.0; all = p.1.1.1.0.0; covers = p.1.1.1.0.1; db = p.1.1.1.1 })
     (λ d. (d.position, (d.source, (d.name, ((d.all, d.covers), d.db)))))

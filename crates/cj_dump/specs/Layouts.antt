@@ -9,8 +9,8 @@ use Rattle.cj_dump.specs.declared.error.DumpError.{DumpError}
 use Rattle.cj_dump.specs.declared.error.DumpError.TheVariants.{Cut, BadField, Order, NoMemory}
 
 -- a value and the place behind it, or what is wrong
-abbrev pub Reading : Type 0 → Type 0
-Reading A = Result (A × Place) DumpError
+abbrev pub FieldReading : Type 0 → Type 0
+FieldReading A = Result (A × Place) DumpError
 
 -- these bytes stand between two places
 pub record Between (bytes : List ℕ) (start next : Place) : Type 0 where
@@ -18,11 +18,11 @@ pub record Between (bytes : List ℕ) (start next : Place) : Type 0 where
   pub size : next.size ≡ start.size
 
 -- the bytes of each value, the values that may stand there, where else the bytes stop and why, and the reading
-pub record Layout (A : Type 0) : Type 1 where
+pub record FieldLayout (A : Type 0) : Type 1 where
   pub bytes : A → List ℕ
   pub fits : A → Type 0
   pub stops : Place → DumpError → Type 0
-  pub reads : Place → Reading A
+  pub reads : Place → FieldReading A
 
 -- ---- one field
 
@@ -33,13 +33,13 @@ field_stops f rises place (BadField n) = (f.reads place.rest ≡ Err faults.BadF
 field_stops {A} f rises place (Order n) = ((x : A) × (next : Place) × Between (f.bytes x) place next × f.fits x × (rises x ≡ false)) × (n ≡ offset place)
 field_stops f rises place NoMemory = ⊥
 
-abbrev pub field_found : {A : Type 0} → (A → Bool) → Place → Result (A × List ℕ) Fault → Reading A
+abbrev pub field_found : {A : Type 0} → (A → Bool) → Place → Result (A × List ℕ) Fault → FieldReading A
 field_found rises place (Ok x) = if rises x.0 then Ok (x.0, record { rest = x.1; size = place.size }) else Err (Order (offset place))
 field_found rises place (Err faults.Cut) = Err (Cut (offset place))
 field_found rises place (Err faults.BadField) = Err (BadField (offset place))
 
 -- a field of a format, which rises above what stands before it
-abbrev pub rising_field : {A : Type 0} → Format A → (A → Bool) → Layout A
+abbrev pub rising_field : {A : Type 0} → Format A → (A → Bool) → FieldLayout A
 rising_field f rises = record {
   bytes = f.bytes;
   fits = λ x. f.fits x × (rises x ≡ true);
@@ -48,17 +48,17 @@ rising_field f rises = record {
 }
 
 -- a field without an order
-abbrev pub field : {A : Type 0} → Format A → Layout A
+abbrev pub field : {A : Type 0} → Format A → FieldLayout A
 field f = rising_field f (λ x. true)
 
 -- no field, for the one value that is left
-abbrev pub known : {A : Type 0} → A → Layout A
+abbrev pub known : {A : Type 0} → A → FieldLayout A
 known x = record { bytes = λ y. []; fits = λ y. y ≡ x; stops = λ place e. ⊥; reads = λ place. Ok (x, place) }
 
 -- ---- one behind another
 
 -- a part of the value, and then the whole value in the layout that this part gives
-abbrev pub behind : {K A : Type 0} → Layout K → (A → K) → (K → Layout A) → Layout A
+abbrev pub behind : {K A : Type 0} → FieldLayout K → (A → K) → (K → FieldLayout A) → FieldLayout A
 behind {K} f key g = record {
   bytes = λ x. f.bytes (key x) ++ (g (key x)).bytes x;
   fits = λ x. f.fits (key x) × (g (key x)).fits x;
@@ -67,7 +67,7 @@ behind {K} f key g = record {
 }
 
 -- the values of another type, each as the one that it stands for
-abbrev pub mapped : {A B : Type 0} → (A → B) → (B → A) → Layout A → Layout B
+abbrev pub mapped : {A B : Type 0} → (A → B) → (B → A) → FieldLayout A → FieldLayout B
 mapped make parts f = record {
   bytes = λ y. f.bytes (parts y);
   fits = λ y. f.fits (parts y) × (make (parts y) ≡ y);
@@ -76,34 +76,34 @@ mapped make parts f = record {
 }
 
 -- a value and then another one, in the layout that the first gives
-abbrev pub followed : {A B : Type 0} → Layout A → (A → Layout B) → Layout (A × B)
+abbrev pub followed : {A B : Type 0} → FieldLayout A → (A → FieldLayout B) → FieldLayout (A × B)
 followed {A} {B} f g = behind f (λ p. p.0) (λ x. mapped (λ y. (x, y)) (λ p. p.1) (g x))
 
-abbrev pub pair : {A B : Type 0} → Layout A → Layout B → Layout (A × B)
+abbrev pub pair : {A B : Type 0} → FieldLayout A → FieldLayout B → FieldLayout (A × B)
 pair f g = followed f (λ x. g)
 
 -- ---- lists: what may stand next goes by the items before it
 
-abbrev pub listed_bytes : {A : Type 0} → (List A → Layout A) → List A → List A → List ℕ
+abbrev pub listed_bytes : {A : Type 0} → (List A → FieldLayout A) → List A → List A → List ℕ
 listed_bytes item before [] = []
 listed_bytes item before (x ∷ xs) = (item before).bytes x ++ listed_bytes item (before ++ x ∷ []) xs
 
-abbrev pub listed_fits : {A : Type 0} → (List A → Layout A) → List A → List A → Type 0
+abbrev pub listed_fits : {A : Type 0} → (List A → FieldLayout A) → List A → List A → Type 0
 listed_fits item before [] = Unit {0}
 listed_fits item before (x ∷ xs) = (item before).fits x × listed_fits item (before ++ x ∷ []) xs
 
-abbrev pub listed_stops : {A : Type 0} → (List A → Layout A) → List A → ℕ → Place → DumpError → Type 0
+abbrev pub listed_stops : {A : Type 0} → (List A → FieldLayout A) → List A → ℕ → Place → DumpError → Type 0
 listed_stops item before zero place e = ⊥
 listed_stops {A} item before (suc n) place e =
     (item before).stops place e ⊎ ((x : A) × (next : Place) × Between ((item before).bytes x) place next × (item before).fits x × listed_stops item (before ++ x ∷ []) n next e)
 
 -- all items, with those before
-abbrev pub listed_reads : {A : Type 0} → (List A → Layout A) → List A → ℕ → Place → Reading (List A)
+abbrev pub listed_reads : {A : Type 0} → (List A → FieldLayout A) → List A → ℕ → Place → FieldReading (List A)
 listed_reads item before zero place = Ok (before, place)
 listed_reads item before (suc n) place = (item before).reads place >>= λ x. listed_reads item (before ++ x.0 ∷ []) n x.1
 
 -- so many items
-abbrev pub listed : {A : Type 0} → (List A → Layout A) → ℕ → Layout (List A)
+abbrev pub listed : {A : Type 0} → (List A → FieldLayout A) → ℕ → FieldLayout (List A)
 listed item n = record {
   bytes = listed_bytes item [];
   fits = λ xs. (length xs ≡ n) × listed_fits item [] xs;
@@ -112,12 +112,12 @@ listed item n = record {
 }
 
 -- items behind their number
-abbrev pub list : {A : Type 0} → Format ℕ → (List A → Layout A) → Layout (List A)
+abbrev pub list : {A : Type 0} → Format ℕ → (List A → FieldLayout A) → FieldLayout (List A)
 list count item = behind (field count) length (listed item)
 
 -- ---- what a step of reading comes to
 
 -- a value was taken off; or the error is that of the layout, unless memory ran out
-abbrev pub Finds : {A : Type 0} → Layout A → Place → Place → Result A DumpError → Type 0
-Finds layout old new (Ok x) = layout.reads old ≡ Ok (x, new)
-Finds layout old new (Err e) = e ≢ NoMemory → layout.reads old ≡ Err e
+abbrev pub TakesOff : {A : Type 0} → FieldLayout A → Place → Place → Result A DumpError → Type 0
+TakesOff layout old new (Ok x) = layout.reads old ≡ Ok (x, new)
+TakesOff layout old new (Err e) = e ≢ NoMemory → layout.reads old ≡ Err e

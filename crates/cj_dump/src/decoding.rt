@@ -4,7 +4,7 @@ ghost use Rattle.std.specs.Prelude.{◌≡◌, [], IfOk, fold};
 ghost use Rattle.cj_model.specs.Database.Tables.{name_cmp, put_by};
 ghost use Rattle.cj_dump.specs.DumpLayout as layouts;
 ghost use Rattle.cj_dump.specs.Dumps.{Decodes};
-ghost use Rattle.cj_dump.specs.Layouts.{Finds};
+ghost use Rattle.cj_dump.specs.Layouts.{TakesOff};
 
 use crate::dump::Dump;
 use crate::error::DumpError;
@@ -47,7 +47,7 @@ fn table_set(alloc: Global, names: &[Name]) -> Result<TableSet, NoMemory>
 
 /// Takes the names covered, in rising order.
 fn take_covers(all: bool, reader: &mut Reader<'_>, alloc: Global) -> Result<TableSet, DumpError>
-    ensures { Finds (layouts.covers all) reader.old reader.new result }
+    ensures { TakesOff (layouts.covers all) reader.old reader.new result }
 {
     let count = take_covers_count(all, reader)?;
     let names = take_parts(&CoveredPart, count, reader, alloc)?;
@@ -55,7 +55,7 @@ fn take_covers(all: bool, reader: &mut Reader<'_>, alloc: Global) -> Result<Tabl
 }
 
 fn take_dump(reader: &mut Reader<'_>, alloc: Global) -> Result<Dump, DumpError>
-    ensures { Finds layouts.dump reader.old reader.new result }
+    ensures { TakesOff layouts.dump reader.old reader.new result }
 {
     let position = take_u64(reader)?;
     let source = take_byte(reader)?;

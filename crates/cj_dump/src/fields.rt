@@ -7,7 +7,7 @@ ghost use Rattle.cj_model.specs.Database.Tables.{name_cmp};
 ghost use Rattle.cj_model.specs.Sql.Lexical as lexical;
 ghost use Rattle.cj_codec.specs.Fields as fields;
 ghost use Rattle.cj_dump.specs.DumpLayout as layouts;
-ghost use Rattle.cj_dump.specs.Layouts.{Finds, field, rising_field};
+ghost use Rattle.cj_dump.specs.Layouts.{TakesOff, field, rising_field};
 
 use crate::error::DumpError;
 use cj_codec::Reader;
@@ -15,25 +15,25 @@ use cj_model::{COLUMN_LIMIT, Column, KEYWORDS, Keyword, Kind, Name, ROW_LIMIT};
 use std::cmp::Ordering;
 
 pub fn take_byte(reader: &mut Reader<'_>) -> Result<u8, DumpError>
-    ensures { Finds (field fields.byte) reader.old reader.new result }
+    ensures { TakesOff (field fields.byte) reader.old reader.new result }
 {
     Ok(reader.u8()?)
 }
 
 pub fn take_u64(reader: &mut Reader<'_>) -> Result<u64, DumpError>
-    ensures { Finds (field fields.number64) reader.old reader.new result }
+    ensures { TakesOff (field fields.number64) reader.old reader.new result }
 {
     Ok(reader.u64()?)
 }
 
 pub fn take_name(reader: &mut Reader<'_>) -> Result<Name, DumpError>
-    ensures { Finds (field fields.name) reader.old reader.new result }
+    ensures { TakesOff (field fields.name) reader.old reader.new result }
 {
     Ok(reader.name()?)
 }
 
 pub fn take_flag(reader: &mut Reader<'_>) -> Result<bool, DumpError>
-    ensures { Finds (field layouts.flag) reader.old reader.new result }
+    ensures { TakesOff (field layouts.flag) reader.old reader.new result }
 {
     let start = reader.offset();
     let byte = reader.u8()?;
@@ -45,7 +45,7 @@ pub fn take_flag(reader: &mut Reader<'_>) -> Result<bool, DumpError>
 
 /// The number of the names covered, of which there are none where all tables are.
 pub fn take_covers_count(all: bool, reader: &mut Reader<'_>) -> Result<u64, DumpError>
-    ensures { Finds (field (layouts.covers_count all)) reader.old reader.new result }
+    ensures { TakesOff (field (layouts.covers_count all)) reader.old reader.new result }
 {
     let start = reader.offset();
     let count = reader.u64()?;
@@ -57,7 +57,7 @@ pub fn take_covers_count(all: bool, reader: &mut Reader<'_>) -> Result<u64, Dump
 
 /// The number of the columns.
 pub fn take_column_count(reader: &mut Reader<'_>) -> Result<u16, DumpError>
-    ensures { Finds (field layouts.column_count) reader.old reader.new result }
+    ensures { TakesOff (field layouts.column_count) reader.old reader.new result }
 {
     let start = reader.offset();
     let count = reader.u16()?;
@@ -69,7 +69,7 @@ pub fn take_column_count(reader: &mut Reader<'_>) -> Result<u16, DumpError>
 
 /// The place of the key among so many columns.
 pub fn take_key(columns: &[Column], reader: &mut Reader<'_>) -> Result<u16, DumpError>
-    ensures { Finds (layouts.key columns.now) reader.old reader.new result }
+    ensures { TakesOff (layouts.key columns.now) reader.old reader.new result }
 {
     let start = reader.offset();
     let place = reader.u16()?;
@@ -81,7 +81,7 @@ pub fn take_key(columns: &[Column], reader: &mut Reader<'_>) -> Result<u16, Dump
 
 /// The number of the rows.
 pub fn take_row_count(reader: &mut Reader<'_>) -> Result<u64, DumpError>
-    ensures { Finds (field layouts.row_count) reader.old reader.new result }
+    ensures { TakesOff (field layouts.row_count) reader.old reader.new result }
 {
     let start = reader.offset();
     let count = reader.u64()?;
@@ -93,7 +93,7 @@ pub fn take_row_count(reader: &mut Reader<'_>) -> Result<u64, DumpError>
 
 /// The transaction of a draft.
 pub fn take_tx(reader: &mut Reader<'_>) -> Result<u64, DumpError>
-    ensures { Finds (field layouts.transaction) reader.old reader.new result }
+    ensures { TakesOff (field layouts.transaction) reader.old reader.new result }
 {
     let start = reader.offset();
     let tx = reader.u64()?;
@@ -104,7 +104,7 @@ pub fn take_tx(reader: &mut Reader<'_>) -> Result<u64, DumpError>
 }
 
 pub fn take_kind(reader: &mut Reader<'_>) -> Result<Kind, DumpError>
-    ensures { Finds (field layouts.kind) reader.old reader.new result }
+    ensures { TakesOff (field layouts.kind) reader.old reader.new result }
 {
     let start = reader.offset();
     match reader.u8()? {
@@ -149,7 +149,7 @@ fn is_new(before: &[Column], name: &Name) -> bool
 
 /// The name of a column that stands behind others.
 pub fn take_column_name(before: &[Column], reader: &mut Reader<'_>) -> Result<Name, DumpError>
-    ensures { Finds (field (layouts.column_name before.now)) reader.old reader.new result }
+    ensures { TakesOff (field (layouts.column_name before.now)) reader.old reader.new result }
 {
     let start = reader.offset();
     let name = reader.name()?;
@@ -171,7 +171,7 @@ fn rises(last: Option<&Name>, name: &Name) -> bool
 
 /// A name that is covered.
 pub fn take_covered(last: Option<&Name>, reader: &mut Reader<'_>) -> Result<Name, DumpError>
-    ensures { Finds (rising_field fields.name (layouts.rises_above (option_copied last.entry))) reader.old reader.new result }
+    ensures { TakesOff (rising_field fields.name (layouts.rises_above (option_copied last.entry))) reader.old reader.new result }
 {
     let start = reader.offset();
     let name = reader.name()?;
@@ -183,7 +183,7 @@ pub fn take_covered(last: Option<&Name>, reader: &mut Reader<'_>) -> Result<Name
 
 /// The name of a table.
 pub fn take_table(last: Option<&Name>, reader: &mut Reader<'_>) -> Result<Name, DumpError>
-    ensures { Finds (rising_field layouts.free_name (layouts.rises_above (option_copied last.entry))) reader.old reader.new result }
+    ensures { TakesOff (rising_field layouts.free_name (layouts.rises_above (option_copied last.entry))) reader.old reader.new result }
 {
     let start = reader.offset();
     let name = reader.name()?;

@@ -1,6 +1,6 @@
 //! Parts of a dump that stand there several times.
 
-ghost use Rattle.cj_dump.specs.Layouts.{Finds, Layout, listed};
+ghost use Rattle.cj_dump.specs.Layouts.{TakesOff, FieldLayout, listed};
 ghost use Rattle.std.specs.Prelude.{List};
 
 use crate::error::DumpError;
@@ -13,7 +13,7 @@ use std::alloc::Global;
 pub trait Part {
     type Item: Drop;
 
-    ghost layout: { Self → List Self.Item → Layout Self.Item };
+    ghost layout: { Self → List Self.Item → FieldLayout Self.Item };
 
     /// Takes the next one off the reader, which is of no more use after an error.
     fn take(
@@ -22,7 +22,7 @@ pub trait Part {
         reader: &mut Reader<'_>,
         alloc: Global,
     ) -> Result<Self::Item, DumpError>
-        ensures { Finds (layout self.now before.now) reader.old reader.new result };
+        ensures { TakesOff (layout self.now before.now) reader.old reader.new result };
 }
 
 /// Takes so many of them.
@@ -32,7 +32,7 @@ pub fn take_parts<P: Part>(
     reader: &mut Reader<'_>,
     alloc: Global,
 ) -> Result<ListOf<P::Item>, DumpError>
-    ensures { Finds (listed (P.layout part.now) count) reader.old reader.new result }
+    ensures { TakesOff (listed (P.layout part.now) count) reader.old reader.new result }
 {
     let mut items = ListOf::new(alloc);
     for _ in 0..count {

@@ -3,7 +3,7 @@
 ghost use Rattle.std.specs.Prelude.{◌≡◌, option_copied};
 ghost use Rattle.cj_model.specs.Database.Tables as tables;
 ghost use Rattle.cj_dump.specs.DumpLayout as layouts;
-ghost use Rattle.cj_dump.specs.Layouts.{Finds};
+ghost use Rattle.cj_dump.specs.Layouts.{TakesOff};
 
 use crate::error::DumpError;
 use crate::fields::take_row_count;
@@ -110,7 +110,7 @@ impl<'a> Part for RowPart<'a> {
 
 /// Takes rows of a schema, in rising key.
 pub fn take_rows(schema: &Schema, reader: &mut Reader<'_>, alloc: Global) -> Result<Rows, DumpError>
-    ensures { Finds (layouts.rows schema.now) reader.old reader.new result }
+    ensures { TakesOff (layouts.rows schema.now) reader.old reader.new result }
 {
     let count = take_row_count(reader)?;
     take_parts(&RowPart { schema }, count, reader, alloc)

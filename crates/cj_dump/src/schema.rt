@@ -2,7 +2,7 @@
 
 ghost use Rattle.std.specs.Prelude.{option_copied};
 ghost use Rattle.cj_dump.specs.DumpLayout as layouts;
-ghost use Rattle.cj_dump.specs.Layouts.{Finds};
+ghost use Rattle.cj_dump.specs.Layouts.{TakesOff};
 
 use crate::error::DumpError;
 use crate::fields::{take_column_count, take_column_name, take_key, take_kind, take_table};
@@ -33,7 +33,7 @@ impl Part for ColumnPart {
 }
 
 fn take_columns(reader: &mut Reader<'_>, alloc: Global) -> Result<Columns, DumpError>
-    ensures { Finds layouts.columns reader.old reader.new result }
+    ensures { TakesOff layouts.columns reader.old reader.new result }
 {
     let count = take_column_count(reader)?;
     take_parts(&ColumnPart, u64::from(count), reader, alloc)
@@ -45,7 +45,7 @@ pub fn take_schema(
     reader: &mut Reader<'_>,
     alloc: Global,
 ) -> Result<Schema, DumpError>
-    ensures { Finds (layouts.schema (option_copied before.entry)) reader.old reader.new result }
+    ensures { TakesOff (layouts.schema (option_copied before.entry)) reader.old reader.new result }
 {
     let table = take_table(before, reader)?;
     let columns = take_columns(reader, alloc)?;

@@ -4,7 +4,7 @@ ghost use Rattle.std.specs.Prelude.{◌≡◌, option_copied, option_map};
 ghost use Rattle.cj_model.specs.Database.Tables as tables;
 ghost use Rattle.cj_dump.specs.DumpLayout.{last_of};
 ghost use Rattle.cj_dump.specs.DumpLayout as layouts;
-ghost use Rattle.cj_dump.specs.Layouts.{Finds};
+ghost use Rattle.cj_dump.specs.Layouts.{TakesOff};
 
 use crate::error::DumpError;
 use crate::fields::{take_flag, take_tx, take_u64};
@@ -35,7 +35,7 @@ fn take_draft(
     reader: &mut Reader<'_>,
     alloc: Global,
 ) -> Result<Option<Draft>, DumpError>
-    ensures { Finds (layouts.draft schema.now) reader.old reader.new result }
+    ensures { TakesOff (layouts.draft schema.now) reader.old reader.new result }
 {
     let is_drafted = take_flag(reader)?;
     if !is_drafted {
@@ -73,7 +73,7 @@ impl Part for SlotPart {
 
 /// Takes the tables, in rising name.
 pub fn take_slots(reader: &mut Reader<'_>, alloc: Global) -> Result<Db, DumpError>
-    ensures { Finds layouts.slots reader.old reader.new result }
+    ensures { TakesOff layouts.slots reader.old reader.new result }
 {
     let count = take_u64(reader)?;
     take_parts(&SlotPart, count, reader, alloc)

@@ -17,12 +17,12 @@ use Rattle.cj_codec.proofs.Held.{fields_hold}
 use Rattle.cj_log.specs.declared.error.ItemError.{ItemError}
 use Rattle.cj_log.specs.declared.item.LogItem.TheVariants.{Entry, Marker}
 use Rattle.cj_log.specs.Items.{backend_byte, item_bytes, FitsBackendByte, IsItem, IsNoItem, BodiesFixItems}
-use Rattle.cj_log.specs.Proving.ItemFormats.{is_user, user, text, backend_of_byte, backend, entry_from, entry_in, entry, marker_from, marker_in, marker, kind_of, fields_of, item, item_error, item_found, item_of, items_in, FindsItem}
+use Rattle.cj_log.specs.Proving.ItemFormats.{is_user_name, user, text, backend_of_byte, backend, entry_from, entry_in, entry, marker_from, marker_in, marker, kind_of, fields_of, item, item_error, item_found, item_of, items_in, FindsItem}
 
 -- ---- the law of formats
 
 user_law : IsFormat user
-user_law = such_that_law is_user string16 (string_law number16 number16_law)
+user_law = such_that_law is_user_name string16 (string_law number16 number16_law)
 
 text_law : IsFormat text
 text_law = such_that_law is_text string64 (string_law number64 number64_law)

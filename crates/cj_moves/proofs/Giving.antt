@@ -23,7 +23,7 @@ use Rattle.cj_book.specs.declared.error.BookError.TheVariants.{InProgress, NoBac
 use Rattle.cj_book.specs.Refusals.{refusal_of}
 use Rattle.cj_outside.specs.Causes.{CountsFault}
 use Rattle.cj_state.specs.Effects.{SchedulesAs, core_scheduled, with_core}
-use Rattle.cj_state.specs.Worlds.{CacheFollowsLog, IsSameButLog, WorldState, with_cache, with_log}
+use Rattle.cj_state.specs.Worlds.{CacheFollowsLog, IsSameWorldButLog, WorldState, with_cache, with_log}
 use Rattle.cj_moves.specs.Counting.{answers_log_fault, log_faults_after}
 use Rattle.cj_moves.specs.Proving.ScheduleParts.{CanCountOne, SchedulesUncounted, schedule_given}
 
@@ -107,18 +107,18 @@ refusal_causes (HistoryFull n) before now counts = counts.uncounted (λ is. cc i
 refusal_causes LogFault before now counts = counts.counted refl
 refusal_causes NoMemory before now counts = counts.uncounted (λ is. cc is)
 
-module _ (old new : WorldState) (same : IsSameButLog (with_cache (with_core old new.core) new.cache) new) (follows : CacheFollowsLog old new) where
+module _ (old new : WorldState) (same : IsSameWorldButLog (with_cache (with_core old new.core) new.cache) new) (follows : CacheFollowsLog old new) where
   -- the core as before leaves the world as before, but maybe for its log
-  same_core : new.core ≡ old.core → IsSameButLog old new
+  same_core : new.core ≡ old.core → IsSameWorldButLog old new
   same_core core = parts follows
     where
-      kept : new.cache ≡ old.cache → IsSameButLog old new
+      kept : new.cache ≡ old.cache → IsSameWorldButLog old new
       kept cache =
           same
           ∙ (ap (λ (k : Core). with_log (with_cache (with_core old k) new.cache) new.recovery_log) core
           ∙ ap (λ (k : CacheState). with_log (with_cache old k) new.recovery_log) cache)
 
-      parts : CacheFollowsLog old new → IsSameButLog old new
+      parts : CacheFollowsLog old new → IsSameWorldButLog old new
       parts (inl still) = kept still.1
       parts (inr (e, longer, cache)) =
           let one : log old.core.history ≡ log old.core.history ++ e ∷ [] = ap (λ (k : Core). log k.history) (sym core) ∙ longer in
@@ -127,7 +127,7 @@ module _ (old new : WorldState) (same : IsSameButLog (with_cache (with_core old 
           absurd (omega (arith, count, sum))
 
   -- where no refusal came of an error, so it is
-  pub refusal_want : (s : ℕ) (e : Entry) (error : BookError) → new.core ≡ core_scheduled old.core s e (Err error) → refusal_of error ≡ None → IsSameButLog old new
+  pub refusal_want : (s : ℕ) (e : Entry) (error : BookError) → new.core ≡ core_scheduled old.core s e (Err error) → refusal_of error ≡ None → IsSameWorldButLog old new
   refusal_want s e (InProgress n) core none = same_core core
   refusal_want s e NoBackend core none = absurd (cc none)
   refusal_want s e (HistoryFull n) core none = absurd (cc none)

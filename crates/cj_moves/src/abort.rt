@@ -3,7 +3,7 @@
 ghost use Rattle.std.specs.Prelude.{◌≡◌, ◌<◌, ◌≤◌, length, IsErrOf, None, Ok};
 ghost use Rattle.cj_cluster.specs.Moves.Moves as moves;
 ghost use Rattle.cj_cluster.specs.Moves.Moves.{AbortsOrphan, not_now};
-ghost use Rattle.cj_state.specs.Worlds.{CacheFollowsLog, IsSameButLog};
+ghost use Rattle.cj_state.specs.Worlds.{CacheFollowsLog, IsSameWorldButLog};
 ghost use Rattle.cj_moves.specs.Counting.{HasLogCauses};
 
 use crate::reason::why;
@@ -31,7 +31,7 @@ pub fn abort<B: Backend, S: Store>(state: &mut State<B, S>, tx: u64) -> Result<M
     ensures moves { AbortsOrphan state.old.core tx result state.new.core }
     ensures log_causes { HasLogCauses state.old state.new (Move.Abort tx) result }
     ensures cells { state.new.cells ≡ state.old.cells }
-    ensures want { IsErrOf result MoveError.NoMemory → IsSameButLog state.old state.new }
+    ensures want { IsErrOf result MoveError.NoMemory → IsSameWorldButLog state.old state.new }
     ensures setup { state.new.setup ≡ state.old.setup }
     ensures cache { CacheFollowsLog state.old state.new }
 {

@@ -3,7 +3,7 @@
 ghost use Rattle.std.specs.Prelude.{◌≡◌, ◌<◌, ◌≤◌, IsErrOf, Some, None, Ok};
 ghost use Rattle.cj_cluster.specs.Moves.Moves as moves;
 ghost use Rattle.cj_cluster.specs.Moves.Moves.{MovesTo};
-ghost use Rattle.cj_state.specs.Worlds.{IsSameButLog};
+ghost use Rattle.cj_state.specs.Worlds.{IsSameWorldButLog};
 ghost use Rattle.cj_moves.specs.Armings.{ArmsCell, HasArmings};
 ghost use Rattle.cj_moves.specs.Caches.{HasCacheAfter};
 ghost use Rattle.cj_moves.specs.Counting.{HasCauses, HasLogCauses};
@@ -62,7 +62,7 @@ pub fn step<B: Backend, S: Store>(state: &mut State<B, S>, m: Move) -> Result<Mo
     ensures armings { HasArmings B.can_be_armed state.old state.new m result }
     ensures logins { HasLogins state.old state.new m result }
     ensures armed { result ≡ Ok Moved.Armed → ArmsCell B.can_be_armed state.old.cells m state.new.cells }
-    ensures want { IsErrOf result MoveError.NoMemory → IsSameButLog state.old state.new }
+    ensures want { IsErrOf result MoveError.NoMemory → IsSameWorldButLog state.old state.new }
     ensures setup { state.new.setup ≡ state.old.setup }
     ensures cache { HasCacheAfter state.old state.new m }
 {

@@ -4,7 +4,7 @@ ghost use Rattle.std.specs.Prelude.{true, ◌≡◌, ◌<◌, ◌≤◌, length,
 ghost use Rattle.cj_model.specs.Sql.Names.{is_name};
 ghost use Rattle.cj_cluster.specs.Moves.Moves as moves;
 ghost use Rattle.cj_cluster.specs.Moves.Moves.{Marks, not_now};
-ghost use Rattle.cj_state.specs.Worlds.{IsSameButLog};
+ghost use Rattle.cj_state.specs.Worlds.{IsSameWorldButLog};
 ghost use Rattle.cj_moves.specs.Counting.{HasLogCauses};
 
 use crate::reason::why;
@@ -33,7 +33,7 @@ pub fn mark<B: Backend, S: Store>(state: &mut State<B, S>, name: &Name) -> Resul
     ensures moves { Marks state.old.core name.now result state.new.core }
     ensures log_causes { HasLogCauses state.old state.new (Move.Mark name.now) result }
     ensures cells { state.new.cells ≡ state.old.cells }
-    ensures want { IsErrOf result MoveError.NoMemory → IsSameButLog state.old state.new }
+    ensures want { IsErrOf result MoveError.NoMemory → IsSameWorldButLog state.old state.new }
     ensures setup { state.new.setup ≡ state.old.setup }
     ensures cache { state.new.cache ≡ state.old.cache }
 {

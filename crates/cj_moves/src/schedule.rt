@@ -10,7 +10,7 @@ ghost use Rattle.cj_cluster.specs.Moves.Cores.{session_at};
 ghost use Rattle.cj_cluster.specs.Moves.Moves.{SchedulesRequest, not_now};
 ghost use Rattle.cj_cluster.specs.Moves.Runs.{IsForLog};
 ghost use Rattle.cj_state.specs.Effects.{with_core};
-ghost use Rattle.cj_state.specs.Worlds.{CacheFollowsLog, IsSameButLog, with_cache};
+ghost use Rattle.cj_state.specs.Worlds.{CacheFollowsLog, IsSameWorldButLog, with_cache};
 ghost use Rattle.cj_moves.specs.Counting.{HasLogCauses};
 ghost use Rattle.cj_moves.specs.Proving.ScheduleParts.{SchedulesUncounted, schedule_given};
 
@@ -68,8 +68,8 @@ fn schedule_uncounted<B: Backend, S: Store>(
     requires now { not_now state.old.core (Move.Schedule s request) ≡ None }
     ensures moves { SchedulesUncounted state.old.core s request result state.new.core }
     ensures log_causes { HasLogCauses state.old state.new (Move.Schedule s request) (schedule_given result) }
-    ensures same { IsSameButLog (with_cache (with_core state.old state.new.core) state.new.cache) state.new }
-    ensures want { IsErrOf result None → IsSameButLog state.old state.new }
+    ensures same { IsSameWorldButLog (with_cache (with_core state.old state.new.core) state.new.cache) state.new }
+    ensures want { IsErrOf result None → IsSameWorldButLog state.old state.new }
     ensures cache { CacheFollowsLog state.old state.new }
 {
     let act = act_of(request);
@@ -97,7 +97,7 @@ pub fn schedule<B: Backend, S: Store>(
     ensures moves { SchedulesRequest state.old.core s request result state.new.core }
     ensures log_causes { HasLogCauses state.old state.new (Move.Schedule s request) result }
     ensures cells { state.new.cells ≡ state.old.cells }
-    ensures want { IsErrOf result MoveError.NoMemory → IsSameButLog state.old state.new }
+    ensures want { IsErrOf result MoveError.NoMemory → IsSameWorldButLog state.old state.new }
     ensures setup { state.new.setup ≡ state.old.setup }
     ensures cache { CacheFollowsLog state.old state.new }
 {

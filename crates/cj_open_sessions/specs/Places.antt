@@ -12,10 +12,10 @@ pub record IsPlaceOf (sessions : List OpenSession) (number place : ℕ) : Type 0
   pub found : find_session sessions number ≡ slice_get sessions place
 
 -- the session of this number, where it is open, can make one request more
-abbrev pub CanCountOne : List OpenSession → ℕ → Type 0
-CanCountOne sessions number = IfSome (find_session sessions number) (λ x. x.requests < REQUEST_LIMIT)
+abbrev pub HasRequestLeft : List OpenSession → ℕ → Type 0
+HasRequestLeft sessions number = IfSome (find_session sessions number) (λ x. x.requests < REQUEST_LIMIT)
 
 -- the sessions rise in number, and there is room for as many as there can be
-pub record KeepsRoom (sessions : List OpenSession) (capacity : ℕ) : Type 0 where
+pub record HasRoomForAll (sessions : List OpenSession) (capacity : ℕ) : Type 0 where
   pub rises : Rises by_session_number sessions
   pub room : SESSION_LIMIT ≤ capacity

@@ -1,7 +1,7 @@
 //! The open sessions.
 
 ghost use Rattle.std.specs.Prelude.{◌≡◌, ◌+◌, ◌<◌, ◌==◌, not, [], ◌∷◌, ◌++◌, length, filter, option_copied, All, IfOk, MatchOption};
-ghost use Rattle.cj_open_sessions.specs.Places.{IsPlaceOf, CanCountOne};
+ghost use Rattle.cj_open_sessions.specs.Places.{IsPlaceOf, HasRequestLeft};
 ghost use Rattle.cj_cluster.specs.Moves.Cores.{find_session, with_session, new_session};
 ghost use Rattle.cj_cluster.specs.Moves.Moves as moves;
 ghost use Rattle.cj_cluster.specs.Moves.Moves.{read_number};
@@ -21,7 +21,7 @@ impl Model for Sessions {
     ghost use Rattle.std.specs.Prelude.{List};
     ghost use Rattle.cj_cluster.specs.declared.moves.OpenSession.{OpenSession};
     ghost use Rattle.std.specs.Prelude.{vec_capacity};
-    ghost use Rattle.cj_open_sessions.specs.Places.{KeepsRoom};
+    ghost use Rattle.cj_open_sessions.specs.Places.{HasRoomForAll};
 
     ghost Value = { List OpenSession };
 
@@ -32,7 +32,7 @@ impl Model for Sessions {
 
     ghost view = { λ sessions. sessions.open.items };
 
-    ghost invariant = { λ sessions. KeepsRoom sessions.open.items (vec_capacity sessions.open) };
+    ghost invariant = { λ sessions. HasRoomForAll sessions.open.items (vec_capacity sessions.open) };
 }
 
 /// The number of the session's open read, or of the next request.
@@ -127,7 +127,7 @@ impl Sessions {
 
     /// The session has made one request more.
     pub fn count(&mut self, number: u64)
-        requires { CanCountOne self.old number }
+        requires { HasRequestLeft self.old number }
         ensures { self.new ≡ with_session self.old number moves.with_one_request }
     {
         if let Some(place) = self.place_of(number) {
@@ -148,7 +148,7 @@ impl Sessions {
 
     /// The session's read was refused.
     pub fn refuse_read(&mut self, number: u64)
-        requires { CanCountOne self.old number }
+        requires { HasRequestLeft self.old number }
         ensures { self.new ≡ with_session self.old number moves.was_answered }
     {
         if let Some(place) = self.place_of(number) {
@@ -158,7 +158,7 @@ impl Sessions {
 
     /// The session's read was answered at a position.
     pub fn answer_read(&mut self, number: u64, position: u64)
-        requires { CanCountOne self.old number }
+        requires { HasRequestLeft self.old number }
         ensures { self.new ≡ with_session self.old number (λ x. moves.answered_at position (moves.was_answered x)) }
     {
         if let Some(place) = self.place_of(number) {
@@ -170,7 +170,7 @@ impl Sessions {
 
     /// The session's read is still open, and the backends of a mask have failed in it.
     pub fn keep_reading(&mut self, number: u64, select: Select, tried: u32)
-        requires { CanCountOne self.old number }
+        requires { HasRequestLeft self.old number }
         ensures { self.new ≡ with_session self.old number (moves.still_reading select tried) }
     {
         if let Some(place) = self.place_of(number) {

@@ -41,8 +41,8 @@ KeepsLimit end (Err errors.NoMemory) = end ≤ most
 -- ---- images: the bytes that a stop may leave
 
 -- an image is one from before, after this step
-abbrev pub Stepped : (List ℕ → List ℕ → Type 0) → (List ℕ → Type 0) → List ℕ → Type 0
-Stepped step before image = (old : List ℕ) × before old × step old image
+abbrev pub IsSteppedImage : (List ℕ → List ℕ → Type 0) → (List ℕ → Type 0) → List ℕ → Type 0
+IsSteppedImage step before image = (old : List ℕ) × before old × step old image
 
 -- a step that changes nothing
 abbrev pub Stays : List ℕ → List ℕ → Type 0
@@ -55,8 +55,8 @@ Only bytes images = (image : List ℕ) → images image → image ≡ bytes
 -- Time goes on by a call that takes this step. What a stop may leave now, or may have left since a moment, is what it might have left before, or such an image after the step.
 pub record Steps {D : Type 0} (moment : D → ℕ) (may : D → List ℕ → Type 0) (since : D → ℕ → List ℕ → Type 0) (step : List ℕ → List ℕ → Type 0) (old new : D) : Type 0 where
   pub later : moment old ≤ moment new
-  pub images : (image : List ℕ) → may new image → Stepped step (may old) image
-  pub past : (t : ℕ) (image : List ℕ) → t ≤ moment old → since new t image → since old t image ⊎ Stepped step (may old) image
+  pub images : (image : List ℕ) → may new image → IsSteppedImage step (may old) image
+  pub past : (t : ℕ) (image : List ℕ) → t ≤ moment old → since new t image → since old t image ⊎ IsSteppedImage step (may old) image
   pub keeps : (t : ℕ) (image : List ℕ) → t ≤ moment old → since old t image → since new t image
 
 -- A stop at any moment since old leaves bytes of which P holds. For a run that began earlier, it leaves what it might have left before, or such bytes.

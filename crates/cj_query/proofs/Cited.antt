@@ -1,7 +1,7 @@
 -- The names that answers of this crate cite, its own lemmas among them, passed on from one place. Declares nothing.
 pub use Rattle.cj_model.proofs.RisingLaws.{rises_filter}
 pub use Rattle.cj_query.proofs.AskLaws.{accepted_is, asked_is, one_table, refused_is}
-pub use Rattle.cj_query.proofs.Common.{All-nil, Asked, FollowsBehind, IfOk, IfSome, IsPartitionPoint, IsPartitionedBy, IsSaid, IsTable, Key, None, Predicate, Ranked, RankedRow, Refused, Rows, Schema, Scope, SortKey, StandsBehind, Suffices, Table, TableBy, Value, all_joined, always_returns_same, answer_from, answer_of, answer_over, append-nil, asked_by, at_most, by_key, cell, code_of, cut_into, deref, first_row, first_rows, follows_rows, found_by, gathered, groups_answered, integer_of, is_enough, is_row_outside, joined_to, keys_of, leads_before, led_by, length-drop, length-map, list_any, names_answered, nil_from_length, option_copied, option_map, option_to_list, predicate_of, product, projected_row, ranked_by, ranks_by, reverses_rows, rows_in, rows_kept, rows_of, rows_seen, satisfies, scope_of, slice_get, sort_key_of, sorted_by, sorts_before, tables_named, tables_of, take-map, take_all, taken, taken_behind, value_cmp, wanted, wanted_of}
+pub use Rattle.cj_query.proofs.Common.{All-nil, Asked, FollowsBehind, IfOk, IfSome, IsPartitionPoint, IsPartitionedBy, IsSaid, IsTable, Key, None, Predicate, Ranked, RankedRow, Refused, Rows, Schema, Scope, SortKey, IsMetAlike, Suffices, Table, TableBy, Value, all_joined, always_returns_same, answer_from, answer_of, answer_over, append-nil, asked_by, at_most, by_key, cell, code_of, cut_into, deref, first_row, first_rows, follows_rows, found_by, gathered, groups_answered, integer_of, is_enough, is_row_outside, joined_to, keys_of, leads_before, led_by, length-drop, length-map, list_any, names_answered, nil_from_length, option_copied, option_map, option_to_list, predicate_of, product, projected_row, ranked_by, ranks_by, reverses_rows, rows_in, rows_kept, rows_of, rows_seen, satisfies, scope_of, slice_get, sort_key_of, sorted_by, sorts_before, tables_named, tables_of, take-map, take_all, taken, taken_behind, value_cmp, wanted, wanted_of}
 pub use Rattle.cj_query.proofs.CountLaws.{counted_is}
 pub use Rattle.cj_query.proofs.EvenLaws.{answered_even, known_even, legal_next}
 pub use Rattle.cj_query.proofs.GroupLaws.{gathered_is}

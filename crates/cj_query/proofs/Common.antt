@@ -27,7 +27,7 @@ pub use Rattle.cj_query.specs.Gathered.{cut_into, same_at, sorted_at}
 pub use Rattle.cj_query.specs.Groups.{rows_in, rows_of}
 pub use Rattle.cj_query.specs.Joined.{Suffices, all_joined, extended_rows, first_rows, joined_to, taken_behind, wanted_of}
 pub use Rattle.cj_query.specs.Kept.{IsBarred, rows_kept}
-pub use Rattle.cj_query.specs.KnownRows.{IsSaid, StandsBehind}
+pub use Rattle.cj_query.specs.KnownRows.{IsSaid, IsMetAlike}
 pub use Rattle.cj_query.specs.Made.{MakesValue}
 pub use Rattle.cj_query.specs.Paths.{answers_each, follows_join, follows_rows, is_enough, reverses_rows}
 pub use Rattle.cj_query.specs.Projections.{bound_item_value, has_bound_sum_out_of_range, is_row_outside, projected_row}

@@ -11,5 +11,5 @@ abbrev pub IsBarred : Ranking → Kept → Type 0
 IsBarred ranking kept = Bars (ranks_before ranking) ranking.limit (rows_kept kept) (option_map seen kept.bar)
 
 -- whatever comes behind them, the same rows are wanted as of the others
-pub record StandsFor (ranking : Ranking) (kept : Kept) (rows : List RankedRow) : Type 0 where
+pub record WantsAlike (ranking : Ranking) (kept : Kept) (rows : List RankedRow) : Type 0 where
   pub same : (more : List RankedRow) → wanted ranking (rows_kept kept ++ more) ≡ wanted ranking (rows ++ more)

@@ -63,7 +63,7 @@ impl<'a> Kept<'a> {
     fn cut(&mut self, ranking: &Ranking, most: u64) -> Result<(), NoMemory>
         requires limit { ranking.now.limit ≡ Some most }
         requires enough { most ≤ length self.old.rows.items }
-        ensures stands { OnOk result (kept_rows.StandsFor ranking.now self.new (kept_rows.rows_kept self.old)) }
+        ensures stands { OnOk result (kept_rows.WantsAlike ranking.now self.new (kept_rows.rows_kept self.old)) }
         ensures barred { OnOk result (kept_rows.IsBarred ranking.now self.new) }
     {
         leave_wanted(&mut self.rows, ranking)?;
@@ -74,7 +74,7 @@ impl<'a> Kept<'a> {
     /// Cuts the rows where there are many more than are wanted.
     fn cut_crowd(&mut self, ranking: &Ranking) -> Result<(), NoMemory>
         requires { kept_rows.IsBarred ranking.now self.old }
-        ensures stands { OnOk result (kept_rows.StandsFor ranking.now self.new (kept_rows.rows_kept self.old)) }
+        ensures stands { OnOk result (kept_rows.WantsAlike ranking.now self.new (kept_rows.rows_kept self.old)) }
         ensures barred { OnOk result (kept_rows.IsBarred ranking.now self.new) }
     {
         if let Some(most) = ranking.limit {
@@ -88,7 +88,7 @@ impl<'a> Kept<'a> {
     /// One more row, behind the others.
     fn add(&mut self, row: Ranked<'a>, ranking: &Ranking) -> Result<(), NoMemory>
         requires { kept_rows.IsBarred ranking.now self.old }
-        ensures stands { OnOk result (kept_rows.StandsFor ranking.now self.new (kept_rows.rows_kept self.old ++ ranks.seen row.entry ∷ [])) }
+        ensures stands { OnOk result (kept_rows.WantsAlike ranking.now self.new (kept_rows.rows_kept self.old ++ ranks.seen row.entry ∷ [])) }
         ensures barred { OnOk result (kept_rows.IsBarred ranking.now self.new) }
     {
         if self.bars(&row, ranking) {

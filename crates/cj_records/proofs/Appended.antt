@@ -2,7 +2,7 @@
 use Rattle.std.proofs.Common.{◌≡◌, ◌≢◌, ◌⊎◌, ℕ, ◌+◌, ◌^◌, ◌<◌, ◌≤◌, Bool, true, false, List, [], ◌∷◌, ◌++◌, length, get_or, take, drop, Result, Ok, Err, refl, sym, ap, subst, ◌∙◌, append_assoc, arith, length-append, length-take}
 use Rattle.std.specs.Prelude.{IsErrAnd}
 use Rattle.std.proofs.lemmas.List.{take_at, drop_at, get_or_at, drop-drop}
-use Rattle.cj_records.proofs.Common.{AgreesWithStore, AllWithin, Appends, Laid, OutError, Place, Reaches, RecordList, RecordsError, Refuses, ShowsPart, bodies_at, body_at, body_behind, overwritten, str64}
+use Rattle.cj_records.proofs.Common.{AgreesWithStore, AllWithin, AppendsRecord, Laid, OutError, Place, Reaches, RecordList, RecordsError, Refuses, ShowsPart, bodies_at, body_at, body_behind, overwritten, str64}
 use Rattle.cj_outside.specs.declared.sink.OutError.TheVariants as out
 use Rattle.cj_outside.specs.Streams.{most}
 use Rattle.cj_records.specs.Refusals.{of_out}
@@ -48,10 +48,10 @@ pub keeps_front : (end : ℕ) (old new : List ℕ) → SameButGate end old new �
 keeps_front end old new s = record { front = s.front; gate = s.gate }
 
 -- a refusal that leaves the list
-pub refused_list : {S : Type 0} (old new : RecordList S) (body : List ℕ) (r : Result ℕ RecordsError) (e : OutError) → IsErrAnd r (λ x. x ≡ of_out e) → new.list ≡ old.list → (e ≡ out.NoMemory → new.torn ≡ true → old.torn ≡ true) → Appends old body new r
+pub refused_list : {S : Type 0} (old new : RecordList S) (body : List ℕ) (r : Result ℕ RecordsError) (e : OutError) → IsErrAnd r (λ x. x ≡ of_out e) → new.list ≡ old.list → (e ≡ out.NoMemory → new.torn ≡ true → old.torn ≡ true) → AppendsRecord old body new r
 refused_list old new body (Ok n) e is same torn = absurd is
-refused_list old new body (Err x) out.Failed is same torn = subst (λ (x : RecordsError). Appends old body new (Err x)) (sym is) same
-refused_list old new body (Err x) out.NoMemory is same torn = subst (λ (x : RecordsError). Appends old body new (Err x)) (sym is) (same, torn refl)
+refused_list old new body (Err x) out.Failed is same torn = subst (λ (x : RecordsError). AppendsRecord old body new (Err x)) (sym is) same
+refused_list old new body (Err x) out.NoMemory is same torn = subst (λ (x : RecordsError). AppendsRecord old body new (Err x)) (sym is) (same, torn refl)
 
 -- the bytes with one record more
 pub record Written (magic old new : List ℕ) (places : List Place) (end : ℕ) (body : List ℕ) : Type 0 where

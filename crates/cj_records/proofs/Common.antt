@@ -5,7 +5,7 @@ pub use Rattle.cj_outside.specs.declared.sink.OutError.{OutError}
 pub use Rattle.cj_records.specs.Proving.Keeping.{AgreesWithStore, Laid, ReadsPart, ShowsPart, body_behind}
 pub use Rattle.cj_records.specs.Proving.Places.{AllWithin, Reaches, StandsAt, bodies_at, body_at, end_of}
 pub use Rattle.cj_records.specs.RecordFiles.{Finds}
-pub use Rattle.cj_records.specs.Records.{Appends, IsBeforeOrAfter, RecordList, Refuses, begun}
+pub use Rattle.cj_records.specs.Records.{AppendsRecord, IsBeforeOrAfter, RecordList, Refuses, begun}
 pub use Rattle.cj_records.specs.declared.error.RecordsError.{RecordsError}
 pub use Rattle.cj_records.specs.declared.place.Place.{Place}
 pub use Rattle.std.proofs.lemmas.List.{length-map}

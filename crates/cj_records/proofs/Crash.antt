@@ -1,7 +1,7 @@
 -- What a stop at any moment of an append leaves.
 use Rattle.std.proofs.Common.{◌≡◌, ◌⊎◌, inl, inr, ⊎_elim, ℕ, ◌+◌, ◌≤◌, Bool, true, false, List, [], ◌∷◌, ◌++◌, length, Ok, Err, refl, sym, subst, arith}
 use Rattle.cj_records.proofs.Common.{Finds, IsBeforeOrAfter, OutError, Place, bodies_at}
-use Rattle.cj_outside.specs.Stores.{Torn, Only, Stepped, Steps, LeavesOnly, overwritten}
+use Rattle.cj_outside.specs.Stores.{Torn, Only, IsSteppedImage, Steps, LeavesOnly, overwritten}
 use Rattle.cj_records.specs.Proving.Parts.{SameButGate, RecordStep, RecordSince, RecordImages}
 use Rattle.cj_records.specs.Proving.Keeping.{Laid, HasRecordBehind, body_behind, SurvivesStop}
 use Rattle.cj_records.proofs.Begun.{laid_finds}
@@ -22,7 +22,7 @@ goes_on moment since a b c P s later past = record {
 }
 
 -- what a stop leaves while a gate is torn
-pub safe_torn : (end : ℕ) (a b : List ℕ) (old now : List ℕ → Type 0) → ((image : List ℕ) → old image → SameButGate end a image) → SameButGate end a b → ((image : List ℕ) → now image → Stepped (Torn end 1) old image) → (image : List ℕ) → now image → SameButGate end b image
+pub safe_torn : (end : ℕ) (a b : List ℕ) (old now : List ℕ → Type 0) → ((image : List ℕ) → old image → SameButGate end a image) → SameButGate end a b → ((image : List ℕ) → now image → IsSteppedImage (Torn end 1) old image) → (image : List ℕ) → now image → SameButGate end b image
 safe_torn end a b old now may_be_open same steps image there =
     let from = steps image there in
     let first = may_be_open from.0 from.1 in
@@ -85,7 +85,7 @@ held_at_least held may magic places end torn laid safe = ⊎_elim
 -- ---- what holds of the fields afterwards
 
 pub safe_shut_refused : (tells : Bool) (old new : List ℕ) (may may' : List ℕ → Type 0) (magic : List ℕ) (places : List Place) (end : ℕ) (torn torn' : Bool) → SurvivesStop tells old may magic places end torn
-    → (tells ≡ true → SameButGate end old new × (torn' ≡ true) × (torn ≡ true)) → ((image : List ℕ) → may' image → Stepped (Torn end 1) may image) → SurvivesStop tells new may' magic places end torn'
+    → (tells ≡ true → SameButGate end old new × (torn' ≡ true) × (torn ≡ true)) → ((image : List ℕ) → may' image → IsSteppedImage (Torn end 1) may image) → SurvivesStop tells new may' magic places end torn'
 safe_shut_refused tells old new may may' magic places end torn torn' s refused steps = record {
   shut = λ t down. let up = (refused t).1 in absurd (cc (up, down));
   may_be_open = λ t up image now. safe_torn end old new may may' (s.may_be_open t (refused t).2) (refused t).0 steps image now;

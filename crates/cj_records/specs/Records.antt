@@ -39,11 +39,11 @@ Opens held magic old (Err (errors.NoMemory, store)) = WritesOnlyNew old (held st
 Opens held magic old (Err (errors.BadRecord offset, store)) = Finds magic old (Err offset) × (held store ≡ old)
 
 -- an append adds the body at the end; refused, it leaves the list, and tells want of memory only before it opens the gate
-abbrev pub Appends : {S : Type 0} → RecordList S → List ℕ → RecordList S → Result ℕ RecordsError → Type 0
-Appends old body new (Ok offset) = (new.list ≡ old.list ++ body ∷ []) × (new.torn ≡ false)
-Appends old body new (Err errors.Failed) = new.list ≡ old.list
-Appends old body new (Err errors.NoMemory) = (new.list ≡ old.list) × (new.torn ≡ true → old.torn ≡ true)
-Appends old body new (Err (errors.BadRecord _)) = ⊥
+abbrev pub AppendsRecord : {S : Type 0} → RecordList S → List ℕ → RecordList S → Result ℕ RecordsError → Type 0
+AppendsRecord old body new (Ok offset) = (new.list ≡ old.list ++ body ∷ []) × (new.torn ≡ false)
+AppendsRecord old body new (Err errors.Failed) = new.list ≡ old.list
+AppendsRecord old body new (Err errors.NoMemory) = (new.list ≡ old.list) × (new.torn ≡ true → old.torn ≡ true)
+AppendsRecord old body new (Err (errors.BadRecord _)) = ⊥
 
 -- In what a stop leaves, the list is that from before an append, or has one body more: the one that is appended, or the one that was refused before.
 abbrev pub IsBeforeOrAfter : {S : Type 0} → RecordList S → List ℕ → List ℕ → Type 0

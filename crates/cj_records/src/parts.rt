@@ -4,7 +4,7 @@ ghost use Rattle.std.specs.Prelude.{◌≡◌, ◌+◌, ◌^◌, ◌<◌, ◌≤
 ghost use Rattle.cj_outside.specs.Causes.{CountsFault};
 ghost use Rattle.cj_outside.specs.Streams.{most};
 ghost use Rattle.cj_outside.specs.Stores.{KeepsLimit, Writes, Torn, Stays, Only, Steps};
-ghost use Rattle.cj_records.specs.Proving.Parts.{Fills, ShutsGate, WritesRecord, RecordImages, RecordSince};
+ghost use Rattle.cj_records.specs.Proving.Parts.{FillsFrom, ShutsGate, WritesRecord, RecordImages, RecordSince};
 
 use cj_outside::{Failed, OutError, Store};
 
@@ -13,7 +13,7 @@ pub fn fill<S: Store>(store: &mut S, at: u64, buf: &mut [u8]) -> Result<usize, F
     requires at { at ≤ most }
     requires len { length buf.old ≤ most }
     ensures bound { IfOk result (λ count. count ≤ length buf.new) }
-    ensures read { S.tells ≡ true → Fills (S.held store.old) at buf.new result }
+    ensures read { S.tells ≡ true → FillsFrom (S.held store.old) at buf.new result }
     ensures bytes { S.tells ≡ true → S.held store.new ≡ S.held store.old }
     ensures cause { CountsFault (IsErr result) (S.faults store.old) (S.faults store.new) }
     ensures disk { Steps S.moment S.may S.since Stays store.old store.new }

@@ -6,7 +6,7 @@ ghost use Rattle.cj_outside.specs.Streams.{most};
 ghost use Rattle.cj_codec.specs.Fields.{str64};
 ghost use Rattle.cj_records.specs.RecordFiles.{Finds, front_bytes};
 ghost use Rattle.cj_records.specs.Proving.Places.{body_at, end_of};
-ghost use Rattle.cj_records.specs.Records.{CountsOpenFault, Opens, Appends, CountsRecords, SameRecords, Reads, IsBeforeOrAfter, KeepsAtLeast, Refuses, LeavesList};
+ghost use Rattle.cj_records.specs.Records.{CountsOpenFault, Opens, AppendsRecord, CountsRecords, SameRecords, Reads, IsBeforeOrAfter, KeepsAtLeast, Refuses, LeavesList};
 ghost use Rattle.cj_records.specs.Proving.Keeping.{ReadsPart};
 ghost use Rattle.cj_outside.specs.Stores.{Only, Stays, Steps, LeavesOnly};
 
@@ -171,7 +171,7 @@ impl<S: Store> Records<S> {
     /// Refused, it leaves the list and the offset of the next record. `NoMemory` comes only before
     /// the gate is opened.
     pub fn append(&mut self, body: &[u8]) -> Result<u64, RecordsError>
-        ensures list { S.tells ≡ true → Appends self.old body.now self.new result }
+        ensures list { S.tells ≡ true → AppendsRecord self.old body.now self.new result }
         ensures counts { CountsRecords self.old (length body.now) self.new result }
         ensures magic { self.new.magic ≡ self.old.magic }
         ensures cause { CountsFault (IsErrOf result RecordsError.Failed) (S.faults self.old.store) (S.faults self.new.store) }

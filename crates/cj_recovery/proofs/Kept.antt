@@ -15,7 +15,7 @@ use Rattle.cj_cluster.specs.History.Histories.{scheduled_entry, log, marker_name
 use Rattle.cj_cluster.proofs.Pushed.{get_seam, get_left, log-sched, log-same, markers-marker, markers-same}
 use Rattle.cj_recovery.specs.declared.markers.MarkerName.{MarkerName}
 use Rattle.cj_recovery.specs.Proving.MarkerOrder.{marker_cmp, named}
-use Rattle.cj_recovery.specs.Proving.Keeping.{entry_at, KeepsPlaces, KeepsSessions, KeepsMarkers, Keeps}
+use Rattle.cj_recovery.specs.Proving.Keeping.{entry_at, KeepsPlaces, KeepsRequests, KeepsMarkers, Keeps}
 
 -- ---- the entries at their places
 
@@ -124,14 +124,14 @@ marked_more h names more name b k added = λ q.
 
 module _ (h : List Event) (places : List ℕ) (sessions new : BTreeMap ℕ SessionSoFar) (names : BTreeSet MarkerName) (k : Keeps h places sessions names) where
   -- an entry that ended at once
-  pub keeps_entry : (e : Entry) → KeepsSessions (log h ++ e ∷ []) new → Keeps (h ++ Sched e ∷ Ended 0 0 ∷ []) (places ++ length h ∷ []) new names
+  pub keeps_entry : (e : Entry) → KeepsRequests (log h ++ e ∷ []) new → Keeps (h ++ Sched e ∷ Ended 0 0 ∷ []) (places ++ length h ∷ []) new names
   keeps_entry e more =
       let two : (h ++ Sched e ∷ []) ++ Ended 0 0 ∷ [] ≡ h ++ Sched e ∷ Ended 0 0 ∷ [] = append_assoc h (Sched e ∷ []) (Ended 0 0 ∷ []) in
       let entries : log ((h ++ Sched e ∷ []) ++ Ended 0 0 ∷ []) ≡ log h ++ e ∷ [] = log-same (h ++ Sched e ∷ []) (Ended 0 0) refl ∙ log-sched h e in
       subst (λ (g : List Event). Keeps g (places ++ length h ∷ []) new names) two
       (record {
         placed = places_same (h ++ Sched e ∷ []) (places ++ length h ∷ []) (Ended 0 0) refl (places_sched h places e k.placed);
-        followed = subst (λ (l : List Entry). KeepsSessions l new) (sym entries) more;
+        followed = subst (λ (l : List Entry). KeepsRequests l new) (sym entries) more;
         marked = marked_same (h ++ Sched e ∷ []) names (Ended 0 0) refl (marked_same h names (Sched e) refl k.marked);
       })
 
@@ -139,6 +139,6 @@ module _ (h : List Event) (places : List ℕ) (sessions new : BTreeMap ℕ Sessi
   pub keeps_marker : (name : List ℕ) (b : Option ℕ) (more : BTreeSet MarkerName) → ((q : List ℕ) → contains marker_cmp more (named q) ≡ (contains marker_cmp names (named q) || bytes_eq q name)) → Keeps (h ++ Marker name b ∷ []) places sessions more
   keeps_marker name b more added = record {
     placed = places_same h places (Marker name b) refl k.placed;
-    followed = subst (λ (l : List Entry). KeepsSessions l sessions) (sym (log-same h (Marker name b) refl)) k.followed;
+    followed = subst (λ (l : List Entry). KeepsRequests l sessions) (sym (log-same h (Marker name b) refl)) k.followed;
     marked = marked_more h names more name b k.marked added;
   }

@@ -14,7 +14,7 @@ use Rattle.cj_cluster.specs.History.Histories.{tx_of}
 use Rattle.cj_cluster.specs.History.Transactions.{is_begin, is_end}
 use Rattle.cj_cluster.specs.Moves.Moves.{entry_numbered}
 use Rattle.cj_cluster.proofs.TransactionLaws.{one_session, tx_of_begin, tx_of_begin_other, tx_of_end, tx_of_end_other, tx_of_else}
-use Rattle.cj_recovery.specs.Proving.Keeping.{IsNextSeq, session_in, tx_behind, KeepsSessions, owner_of, session_behind}
+use Rattle.cj_recovery.specs.Proving.Keeping.{IsNextSeq, session_in, tx_behind, KeepsRequests, owner_of, session_behind}
 
 -- ---- the entry of a number
 
@@ -127,7 +127,7 @@ owner_administrator entries e a =
 
 -- ---- all sessions
 
-module _ (entries : List Entry) (e : Entry) (sessions new : BTreeMap ℕ SessionSoFar) (owner : ℕ) (k : KeepsSessions entries sessions)
+module _ (entries : List Entry) (e : Entry) (sessions new : BTreeMap ℕ SessionSoFar) (owner : ℕ) (k : KeepsRequests entries sessions)
     (here : session_in new owner ≡ session_behind entries sessions owner e) (there : (s : ℕ) → s ≢ owner → session_in new s ≡ session_in sessions s) where
   keeps_tx : Owns entries e owner → (s : ℕ) → (session_in new s).tx ≡ tx_of (entries ++ e ∷ []) s
   keeps_tx owns s =
@@ -138,7 +138,7 @@ module _ (entries : List Entry) (e : Entry) (sessions new : BTreeMap ℕ Session
       (cases_eq s owner)
 
   -- a session's own entry
-  keeps_own : owner ≡ e.session → IsSessionEntry entries e → KeepsSessions (entries ++ e ∷ []) new
+  keeps_own : owner ≡ e.session → IsSessionEntry entries e → KeepsRequests (entries ++ e ∷ []) new
   keeps_own is own = record {
     next = λ s some.
         ⊎_elim
@@ -155,7 +155,7 @@ module _ (entries : List Entry) (e : Entry) (sessions new : BTreeMap ℕ Session
   }
 
   -- the administrator's
-  keeps_ended : (a : IsAdministratorEntry entries e) → owner ≡ a.begin.session → KeepsSessions (entries ++ e ∷ []) new
+  keeps_ended : (a : IsAdministratorEntry entries e) → owner ≡ a.begin.session → KeepsRequests (entries ++ e ∷ []) new
   keeps_ended a is = record {
     next = λ s some.
         let other : e.session ≢ s = λ same. (let z = a.session in omega (arith, some, z, same)) in
@@ -171,14 +171,14 @@ module _ (entries : List Entry) (e : Entry) (sessions new : BTreeMap ℕ Session
   }
 
   -- any fit entry
-  pub keeps_fit : owner ≡ owner_of entries e → IsFitEntry entries e → KeepsSessions (entries ++ e ∷ []) new
+  pub keeps_fit : owner ≡ owner_of entries e → IsFitEntry entries e → KeepsRequests (entries ++ e ∷ []) new
   keeps_fit is fit =
       ⊎_elim (λ (s : IsSessionEntry entries e). keeps_own (is ∙ owner_session entries e s.session.0) s)
       (λ (a : IsAdministratorEntry entries e). keeps_ended a (is ∙ owner_administrator entries e a)) fit.by
 
 -- ---- a session's next entry
 
-module _ (entries : List Entry) (e : Entry) (sessions : BTreeMap ℕ SessionSoFar) (k : KeepsSessions entries sessions) where
+module _ (entries : List Entry) (e : Entry) (sessions : BTreeMap ℕ SessionSoFar) (k : KeepsRequests entries sessions) where
   -- what an entry of a session must be, by what is known of the session
   pub record IsAsKnown : Type 0 where
     pub session : (0 < e.session) × (e.session ≤ SESSION_NUMBER_LIMIT)

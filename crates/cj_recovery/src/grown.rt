@@ -11,7 +11,7 @@ ghost use Rattle.cj_cluster.specs.Moves.Moves.{entry_numbered};
 ghost use Rattle.cj_log.specs.declared.item.LogItem.TheVariants as items;
 ghost use Rattle.cj_log.specs.Items.{IsEntry, IsItem};
 ghost use Rattle.cj_recovery.specs.Proving.Keeping as keeping;
-ghost use Rattle.cj_recovery.specs.Proving.Keeping.{Keeps, KeepsSessions, session_in};
+ghost use Rattle.cj_recovery.specs.Proving.Keeping.{Keeps, KeepsRequests, session_in};
 ghost use Rattle.cj_recovery.specs.Proving.Steps.{AddsItem, BringsNothing, FindsEntry};
 
 use crate::act::read_act;
@@ -199,7 +199,7 @@ impl Grown {
     fn follow(&mut self, entry: &Entry) -> Result<(), NoMemory>
         requires keeps { Keeps self.old.events.items self.old.places.items self.old.sessions self.old.names }
         requires fit { IsFitEntry (log self.old.events.items) entry.now }
-        ensures sessions { OnOk result (KeepsSessions (log self.old.events.items ++ entry.now ∷ []) self.new.sessions) }
+        ensures sessions { OnOk result (KeepsRequests (log self.old.events.items ++ entry.now ∷ []) self.new.sessions) }
         ensures events { self.new.events ≡ self.old.events }
         ensures places { self.new.places ≡ self.old.places }
         ensures names { self.new.names ≡ self.old.names }

@@ -21,7 +21,7 @@ use Rattle.cj_replica.specs.declared.replica.Caught.{Caught}
 use Rattle.cj_replica.specs.declared.replica.Caught.TheVariants.{Skipped, Did}
 use Rattle.cj_replica.specs.declared.replica.CellError.{CellError}
 use Rattle.cj_replica.specs.declared.replica.CellReadError.{CellReadError}
-use Rattle.cj_replica.specs.Cells.{CellState, CatchesUp, Loads, SaysEntryOutcome, SaysReadAnswer, TellsAfterEntry, TellsLoaded, begun_after_entry, begun_loaded, is_skipped, position_after}
+use Rattle.cj_replica.specs.Cells.{CellState, CatchesUp, LoadsDatabase, SaysEntryOutcome, SaysReadAnswer, TellsAfterEntry, TellsLoaded, begun_after_entry, begun_loaded, is_skipped, position_after}
 use Rattle.cj_replica.specs.Logged.{IsLoggedAnswer, IsLoggedOutcome, IsLoggedPart}
 
 -- that of an entry more, where the replica took it
@@ -76,18 +76,18 @@ module _ (cell_tells tells : Bool) (tells_too : tells ≡ true → cell_tells �
   loaded_drafts (Ok u) = λ on. subst (λ (d : List Slot). CoversDrafts (writers d) (part p b (database_after entries n))) (sym (right on)) (writers_cover (part p b (database_after entries n)))
   loaded_drafts (Err e) = tt
 
-  pub holds_dump : (r : Result Unit CellError) → Loads cell_tells x db n r y → HoldsPart tells p b entries y.told y.position
+  pub holds_dump : (r : Result Unit CellError) → LoadsDatabase cell_tells x db n r y → HoldsPart tells p b entries y.told y.position
   holds_dump r loads = subst (HoldsPart tells p b entries y.told) (sym loads.place) (loaded_part r loads.told)
 
-  pub drafts_dump : (r : Result Unit CellError) → Loads cell_tells x db n r y → HasBegunDrafts tells p b entries y.begun y.position
+  pub drafts_dump : (r : Result Unit CellError) → LoadsDatabase cell_tells x db n r y → HasBegunDrafts tells p b entries y.begun y.position
   drafts_dump r loads = subst (λ (z : List ℕ × Option ℕ). HasBegunDrafts tells p b entries z.0 z.1) (λ i. (sym loads.begun i, sym loads.place i)) (loaded_drafts r)
 
 -- the same of a dump that tells
 module _ (tells : Bool) (p : Placement) (b : ℕ) (entries : List Entry) (db : List Slot) (n : ℕ) (right : tells ≡ true → db ≡ part p b (database_after entries n)) (x y : CellState) where
-  pub holds_loaded : (r : Result Unit CellError) → Loads tells x db n r y → HoldsPart tells p b entries y.told y.position
+  pub holds_loaded : (r : Result Unit CellError) → LoadsDatabase tells x db n r y → HoldsPart tells p b entries y.told y.position
   holds_loaded = holds_dump tells tells (λ on. on) p b entries db n right x y
 
-  pub drafts_loaded : (r : Result Unit CellError) → Loads tells x db n r y → HasBegunDrafts tells p b entries y.begun y.position
+  pub drafts_loaded : (r : Result Unit CellError) → LoadsDatabase tells x db n r y → HasBegunDrafts tells p b entries y.begun y.position
   drafts_loaded = drafts_dump tells tells (λ on. on) p b entries db n right x y
 
 -- what a cell that holds its part says in the words of the log

@@ -26,7 +26,7 @@ use Rattle.cj_board.proofs.Histories.{log_bound}
 use Rattle.cj_replica.specs.declared.replica.Caught.{Caught}
 use Rattle.cj_replica.specs.declared.replica.CellError.{CellError}
 use Rattle.cj_replica.specs.declared.replica.CellError.TheVariants.{Failed, Starved}
-use Rattle.cj_replica.specs.Cells.{CellState, CatchesUp, Loads, HasCellCause, IsNextEntry, position_after}
+use Rattle.cj_replica.specs.Cells.{CellState, CatchesUp, LoadsDatabase, HasCellCause, IsEntryAfter, position_after}
 use Rattle.cj_replica.specs.Logged.{IsLoggedOutcome}
 use Rattle.cj_replica.specs.Seated.{SeatedCell, IsSeated, view_after_entry, view_after_load}
 use Rattle.cj_replica.proofs.HeldParts.{outcome_logged, holds_taken, drafts_taken, holds_dump, drafts_dump, holds_longer, drafts_longer}
@@ -116,7 +116,7 @@ module _ {T : Type 0} (b n : ℕ) (v : SeatView) where
 pub number_of : (b c q : ℕ) (role : Role) → IsCellOf b role → role ≡ Cell c q → b ≡ c
 number_of b c q role cell is = let same : Cell b (role_position role) ≡ Cell c q = sym cell ∙ is in cc same
 
-stands_at : (q : Option ℕ) (n : ℕ) → IsNextEntry q n → (p : ℕ) × (q ≡ Some p) × (n ≡ p + 1)
+stands_at : (q : Option ℕ) (n : ℕ) → IsEntryAfter q n → (p : ℕ) × (q ≡ Some p) × (n ≡ p + 1)
 stands_at None n is = absurd is
 stands_at (Some p) n is = (p, refl, is)
 
@@ -129,7 +129,7 @@ module _ (tells : Bool) (x : CellState) (id : TableId) (v : SeatView) (f : ℕ) 
       (ap role_position is.role ∙ ap word_of_position place, omega arith)
 
   -- the next entry
-  pub follows_in : (n : ℕ) (e : Entry) → IsNextEntry x.position n → slice_get (log v.front) (n - 1) ≡ Some e → (n ≡ role_position v.role + 1) × (role_position v.role < length (log v.front)) × IsWritten (request_of e.act)
+  pub follows_in : (n : ℕ) (e : Entry) → IsEntryAfter x.position n → slice_get (log v.front) (n - 1) ≡ Some e → (n ≡ role_position v.role + 1) × (role_position v.role < length (log v.front)) × IsWritten (request_of e.act)
   follows_in n e follows entry =
       let s = stands_at x.position n follows in
       let next_is = s.2 in
@@ -140,7 +140,7 @@ module _ (tells : Bool) (x : CellState) (id : TableId) (v : SeatView) (f : ℕ) 
       (omega arith, omega arith, (fit_at (log v.front) s.0 e (legal_fit v.front is.legal) there).written)
 
   -- what the replica did is what the entry comes to
-  pub entry_logged : (y : CellState) (n : ℕ) (e : Entry) (given : List ℕ) (r : Result Caught CellError) → IsNextEntry x.position n → slice_get (log v.front) (n - 1) ≡ Some e → CatchesUp x n e given r y → tells ≡ true → IsLoggedOutcome (log v.front) n r
+  pub entry_logged : (y : CellState) (n : ℕ) (e : Entry) (given : List ℕ) (r : Result Caught CellError) → IsEntryAfter x.position n → slice_get (log v.front) (n - 1) ≡ Some e → CatchesUp x n e given r y → tells ≡ true → IsLoggedOutcome (log v.front) n r
   entry_logged y n e given r follows entry takes on =
       let s = stands_at x.position n follows in
       let next_is = s.2 in
@@ -167,7 +167,7 @@ stands_seen b q v role legal stands m begins idle on =
 -- ---- the calls
 
 module _ (tells : Bool) (x y : CellState) (id id' : TableId) (v w : SeatView) (f : ℕ) (is : IsSeated tells (at_seat x id v f)) where
-  pub seated_entry : (n : ℕ) (e : Entry) (given : List ℕ) (r : Result Caught CellError) → IsNextEntry x.position n → slice_get (log v.front) (n - 1) ≡ Some e → CatchesUp x n e given r y → w ≡ view_after_entry x.b n v r → IsSeated tells (at_seat y id' w f)
+  pub seated_entry : (n : ℕ) (e : Entry) (given : List ℕ) (r : Result Caught CellError) → IsEntryAfter x.position n → slice_get (log v.front) (n - 1) ≡ Some e → CatchesUp x n e given r y → w ≡ view_after_entry x.b n v r → IsSeated tells (at_seat y id' w f)
   seated_entry n e given r follows entry takes view =
       let s = stands_at x.position n follows in
       let next_is = s.2 in
@@ -188,7 +188,7 @@ module _ (tells : Bool) (x y : CellState) (id id' : TableId) (v w : SeatView) (f
       in_log le (Ok c) = le
       in_log le (Err d) = tt
 
-  pub seated_load : (cell_tells : Bool) → (tells ≡ true → cell_tells ≡ true) → (db : List Slot) (n : ℕ) (r : Result Unit CellError) → x.position ≡ None → n ≤ length (log v.front) → (tells ≡ true → db ≡ part x.placement x.b (database_after (log v.front) n)) → Loads cell_tells x db n r y → w ≡ view_after_load x.b n v r
+  pub seated_load : (cell_tells : Bool) → (tells ≡ true → cell_tells ≡ true) → (db : List Slot) (n : ℕ) (r : Result Unit CellError) → x.position ≡ None → n ≤ length (log v.front) → (tells ≡ true → db ≡ part x.placement x.b (database_after (log v.front) n)) → LoadsDatabase cell_tells x db n r y → w ≡ view_after_load x.b n v r
       → IsSeated tells (at_seat y id' w f)
   seated_load cell_tells tells_too db n r out within right loads view =
       seated_same tells x y id id' v w f is loads.b loads.placement

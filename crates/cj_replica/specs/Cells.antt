@@ -48,9 +48,9 @@ pub record CellState : Type 0 where
 -- ---- taking an entry
 
 -- entry n is the one behind this position
-abbrev pub IsNextEntry : Option ℕ → ℕ → Type 0
-IsNextEntry None n = ⊥
-IsNextEntry (Some p) n = n ≡ p + 1
+abbrev pub IsEntryAfter : Option ℕ → ℕ → Type 0
+IsEntryAfter None n = ⊥
+IsEntryAfter (Some p) n = n ≡ p + 1
 
 -- whether the backend takes part in an entry
 abbrev pub takes_part_in_entry : CellState → Entry → Bool
@@ -161,7 +161,7 @@ SpendsArmingAtLoad before now (Err errors.Failed) = now ≡ spent before
 SpendsArmingAtLoad before now (Err errors.Starved) = (now ≡ before) ⊎ ((before.armed ≡ false) × (now ≡ spent before))
 
 -- it holds a database from now on, of a position
-pub record Loads (tells : Bool) (before : CellState) (db : List Slot) (position : ℕ) (result : Result Unit CellError) (after : CellState) : Type 0 where
+pub record LoadsDatabase (tells : Bool) (before : CellState) (db : List Slot) (position : ℕ) (result : Result Unit CellError) (after : CellState) : Type 0 where
   pub place : after.position ≡ position_after position result
   pub begun : after.begun ≡ begun_loaded db result
   pub refused : OnErr result (after.begun ≡ before.begun)
@@ -219,8 +219,8 @@ pub record AnswersAt {A : Type 0} (SaysOf : Option (List Slot) → A → Type 0)
   pub same : after ≡ record before { login = after.login; faults = after.faults; asks = after.asks; arming = after.arming }
 
 -- it answers a query of a transaction, 0 for none
-abbrev pub Reads : CellState → List ℕ → ℕ → Select → ℕ → Result (Asked × ℕ) CellReadError → CellState → Type 0
-Reads before given tx select least result after = AnswersAt (λ told answer. SaysReadAnswer told tx select answer) IsAsked asks_after before given least result after
+abbrev pub ReadsAnswer : CellState → List ℕ → ℕ → Select → ℕ → Result (Asked × ℕ) CellReadError → CellState → Type 0
+ReadsAnswer before given tx select least result after = AnswersAt (λ told answer. SaysReadAnswer told tx select answer) IsAsked asks_after before given least result after
 
 -- the words of an answer, of that to a query
 abbrev pub HasCellReadCause : ℕ → ℕ → Result (Asked × ℕ) CellReadError → Type 0

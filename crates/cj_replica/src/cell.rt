@@ -114,7 +114,7 @@ fn note_read(board: &Board, seat: &mut CellSeat, answer: &Result<(Asked, u64), C
 impl<B: Backend, D: Store> Cell<B, D> {
     ghost use Rattle.std.specs.Prelude.{◌&&◌};
     ghost use Rattle.cj_place.specs.Layouts.{placement_of};
-    ghost use Rattle.cj_replica.specs.Cells.{CatchesUp, GivesContents, IsNextEntry, KeepsBegun, Loads, Reads};
+    ghost use Rattle.cj_replica.specs.Cells.{CatchesUp, GivesContents, IsEntryAfter, KeepsBegun, LoadsDatabase, ReadsAnswer};
     ghost use Rattle.cj_replica.specs.Logged.{IsLoggedAnswer, IsLoggedOutcome, IsLoggedPart};
     ghost use Rattle.cj_replica.specs.Seated.{HasBackend, IsSameSeat, IsSeated, StandsWhereEnabled};
 
@@ -145,7 +145,7 @@ impl<B: Backend, D: Store> Cell<B, D> {
         login: &Text,
     ) -> Result<Caught, CellError>
         requires board { self.old.board ≡ board_id board.now }
-        requires next { IsNextEntry self.old.state.position n }
+        requires next { IsEntryAfter self.old.state.position n }
         requires entry { slice_get (log self.old.view.front) (n - 1) ≡ Some e.now }
         ensures state { CatchesUp self.old.state n e.now login.now result self.new.state }
         ensures logged { (D.tells && B.tells) ≡ true → IsLoggedOutcome (log self.old.view.front) n result }
@@ -179,7 +179,7 @@ impl<B: Backend, D: Store> Cell<B, D> {
         requires storable { IsStorable db }
         requires within { position ≤ length (log self.old.view.front) }
         requires right { (D.tells && B.tells) ≡ true → db ≡ part self.old.state.placement self.old.state.b (database_after (log self.old.view.front) position) }
-        ensures state { Loads B.tells self.old.state db position result self.new.state }
+        ensures state { LoadsDatabase B.tells self.old.state db position result self.new.state }
         ensures seat { self.new.view ≡ view_after_load self.old.state.b position self.old.view result }
         ensures same { IsSameSeat self.old self.new }
     {
@@ -200,7 +200,7 @@ impl<B: Backend, D: Store> Cell<B, D> {
     ) -> Result<(Asked, u64), CellReadError>
         requires board { self.old.board ≡ board_id board.now }
         requires written { IsWritten (request.Select select.now) }
-        ensures state { Reads self.old.state login.now tx select.now least result self.new.state }
+        ensures state { ReadsAnswer self.old.state login.now tx select.now least result self.new.state }
         ensures logged { (D.tells && B.tells) ≡ true → IsLoggedAnswer self.old.state.placement self.old.state.b (log self.old.view.front) tx select.now result }
         ensures seat { self.new.view ≡ view_after_read self.old.state.b self.old.view result }
         ensures same { IsSameSeat self.old self.new }

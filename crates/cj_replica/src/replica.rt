@@ -121,7 +121,7 @@ impl<B: Backend> Model for Replica<B> {
 }
 
 impl<B: Backend> Replica<B> {
-    ghost use Rattle.cj_replica.specs.Cells.{CatchesUp, GivesContents, IsNextEntry, KeepsBegun, Loads, Reads, takes_part_in_entry};
+    ghost use Rattle.cj_replica.specs.Cells.{CatchesUp, GivesContents, IsEntryAfter, KeepsBegun, LoadsDatabase, ReadsAnswer, takes_part_in_entry};
     ghost use Rattle.cj_place.specs.Layouts.{placement_of};
 
     /// Backend `b` of the placement, which has taken no entry.
@@ -157,7 +157,7 @@ impl<B: Backend> Replica<B> {
     /// skipped, and takes no memory. A transaction begins there with its first write of a table that
     /// the backend hosts.
     pub fn catch_up(&mut self, n: u64, e: &Entry, login: &Text) -> Result<Caught, CellError>
-        requires next { IsNextEntry self.old.position n }
+        requires next { IsEntryAfter self.old.position n }
         requires written { IsWritten (request_of e.now.act) }
         ensures { CatchesUp self.old n e.now login.now result self.new }
     {
@@ -188,7 +188,7 @@ impl<B: Backend> Replica<B> {
     pub fn load(&mut self, db: Db, position: u64) -> Result<(), CellError>
         requires out { self.old.position ≡ None }
         requires storable { IsStorable db }
-        ensures { Loads B.tells self.old db position result self.new }
+        ensures { LoadsDatabase B.tells self.old db position result self.new }
     {
         // The list comes before the backend: want of memory for it leaves the backend as it was.
         let begun = writers_of(*self.begun.allocator(), db.as_slice())?;
@@ -208,7 +208,7 @@ impl<B: Backend> Replica<B> {
         least: u64,
     ) -> Result<(Asked, u64), CellReadError>
         requires { IsWritten (request.Select select.now) }
-        ensures { Reads self.old login.now tx select.now least result self.new }
+        ensures { ReadsAnswer self.old login.now tx select.now least result self.new }
     {
         let Some(position) = self.position else {
             return Err(CellReadError::Out);

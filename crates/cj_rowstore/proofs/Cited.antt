@@ -8,7 +8,7 @@ pub use Rattle.cj_rowstore.proofs.RowEntryLaws.{copied_none, extends_itself, ext
 pub use Rattle.cj_rowstore.proofs.RowLaws.{anew, kept_passing, passing, rise_anew}
 pub use Rattle.cj_rowstore.proofs.ScanLaws.{both_turn, change_turn, entry_turn, only_change, only_entry, step_rises}
 pub use Rattle.cj_rowstore.proofs.StoredLaws.{added_holds, added_shown, anew_holds, anew_shown, base_holds, base_shown, failed_holds, failed_shown, on_err, opened_holds, opened_shown, passing_holds, passing_shown, prepared_holds, prepared_shown}
-pub use Rattle.cj_rowstore.specs.RowEntries.{Settles, turn}
+pub use Rattle.cj_rowstore.specs.RowEntries.{SettlesRow, turn}
 pub use Rattle.cj_rowstore.specs.Stored.{HoldsTable, KeepsKeys, slot_shown}
 pub use Rattle.std.proofs.lemmas.Map.Made.{filter_same_pairs, map_same_pairs}
 pub use Rattle.std.specs.Prelude.{unwrap_or}

@@ -5,7 +5,7 @@ use Rattle.cj_model.specs.declared.database.Draft.{Draft}
 use Rattle.cj_model.specs.Database.Tables.{IsSlot, Rises, by_key, cell, put_by}
 use Rattle.cj_model.specs.Database.Steps.{seen}
 use Rattle.cj_model.proofs.RisingLaws.{equal_from}
-use Rattle.cj_rowstore.specs.RowEntries.{RowEntries, Settles, Turns, keyed, knows, puts}
+use Rattle.cj_rowstore.specs.RowEntries.{RowEntries, SettlesRow, TurnsInto, keyed, knows, puts}
 use Rattle.cj_rowstore.proofs.EntryLaws.{at_insert, at_kept, at_merged, at_remove, rise_merged, same_entries}
 use Rattle.cj_rowstore.proofs.RowEntryLaws.{all_back}
 use Rattle.cj_rowstore.proofs.RowLaws.{fold_past, merged_puts, rise_each, rise_keyed, values_keyed}
@@ -29,14 +29,14 @@ module _ (es : RowEntries) (key : Value) (row : List Value) (u : KeysRise value_
   itself = ap is_eq (tied_itself value_total key)
 
   -- a row that goes
-  pub settles_gone : at value_cmp key es ≡ None → Settles key row es (insert_entry value_cmp es key None)
+  pub settles_gone : at value_cmp key es ≡ None → SettlesRow key row es (insert_entry value_cmp es key None)
   settles_gone none = record {
     own = ap (λ o. unwrap_or o (Some row)) (at_insert value_cmp value_total value_exact key es key None ∙ cond-true _ _ _ itself) ∙ sym (ap (λ o. unwrap_or o None) none);
     others = λ other n. at_insert value_cmp value_total value_exact other es key None ∙ cond-false _ _ _ n;
   }
 
   -- a row that stays as it is
-  pub settles_same : at value_cmp key es ≡ Some (Some row) → Settles key row es (remove_entry (is_at (value_cmp key)) es)
+  pub settles_same : at value_cmp key es ≡ Some (Some row) → SettlesRow key row es (remove_entry (is_at (value_cmp key)) es)
   settles_same same = record {
     own = ap (λ o. unwrap_or o (Some row)) (at_remove value_cmp value_total value_exact key es key u ∙ cond-true _ _ _ itself) ∙ sym (ap (λ o. unwrap_or o None) same);
     others = λ other n. at_remove value_cmp value_total value_exact other es key u ∙ cond-false _ _ _ n;
@@ -47,7 +47,7 @@ module _ (es : RowEntries) (key : Value) (row : List Value) (u : KeysRise value_
   change_shows (Some w) h = refl
 
   -- a row that becomes another
-  pub settles_changed : knows es key ≡ true → Settles key row es es
+  pub settles_changed : knows es key ≡ true → SettlesRow key row es es
   settles_changed h = record { own = change_shows (at value_cmp key es) h; others = λ other n. refl }
 
 -- ---- one row after another
@@ -75,7 +75,7 @@ module _ (k : ℕ) (r : List Value) where
   at_before key n [] = cond-false _ _ _ n
   at_before key n (d ∷ rows) = ap (λ o. cond (is_at (value_cmp key) (cell d k)) (Some d) o) (at_before key n rows)
 
-  module _ (rows rest : List (List Value)) (h : Rises (by_key k) (rows ++ r ∷ rest)) (first now new : RowEntries) (t : Turned k rows first now) (s : Settles (cell r k) r now new) where
+  module _ (rows rest : List (List Value)) (h : Rises (by_key k) (rows ++ r ∷ rest)) (first now new : RowEntries) (t : Turned k rows first now) (s : SettlesRow (cell r k) r now new) where
     at_key : unwrap_or (at value_cmp (cell r k) new) (at value_cmp (cell r k) (keyed k (rows ++ r ∷ []))) ≡ unwrap_or (at value_cmp (cell r k) first) None
     at_key =
         ap (unwrap_or (at value_cmp (cell r k) new)) (at_last rows rest h) ∙ s.own
@@ -94,7 +94,7 @@ module _ (k : ℕ) (r : List Value) where
     }
 
 -- all rows
-pub turned_all : (k : ℕ) (old new : List (List Value)) (changes : RowEntries) → Rises (by_key k) old → Rises (by_key k) new → KeysRise value_cmp changes → Turned k old (puts k new) changes → Turns k old new changes
+pub turned_all : (k : ℕ) (old new : List (List Value)) (changes : RowEntries) → Rises (by_key k) old → Rises (by_key k) new → KeysRise value_cmp changes → Turned k old (puts k new) changes → TurnsInto k old new changes
 turned_all k old new changes o n u t = record {
   rises = u;
   rows = same_entries value_cmp value_total value_exact _ _ (rise_merged value_cmp value_total value_exact (keyed k old) changes (rise_keyed k old o) u) (rise_keyed k new n)
@@ -113,7 +113,7 @@ table_filled schema rows h =
 
 module _ (s : Slot) (d : Draft) (none : s.draft ≡ None) (is : IsSlot (record { base = s.base; draft = Some d })) where
   -- changes that turn the base's rows into the draft's
-  pub draft_put : (changes : RowEntries) → Turns s.base.schema.key (seen s d.tx).rows d.table.rows changes → changed_slot s d.tx changes ≡ record { base = s.base; draft = Some d }
+  pub draft_put : (changes : RowEntries) → TurnsInto s.base.schema.key (seen s d.tx).rows d.table.rows changes → changed_slot s d.tx changes ≡ record { base = s.base; draft = Some d }
   draft_put changes t =
       let rows : rows_after s.base.schema.key (seen s d.tx).rows changes ≡ d.table.rows = ap values_of t.rows ∙ values_keyed s.base.schema.key d.table.rows in
       cond-false _ _ _ (ne_eqb d.tx 0 (λ z. absurd (omega (arith, is.draft.0, z))))

@@ -67,11 +67,11 @@ pub record HasKeysOf (old changes new : RowEntries) : Type 0 where
 -- ---- changes that turn rows into new ones
 
 -- only the change at the row's key is another, and shows over the row what the old one showed over nothing
-pub record Settles (key : Value) (row : List Value) (old new : RowEntries) : Type 0 where
+pub record SettlesRow (key : Value) (row : List Value) (old new : RowEntries) : Type 0 where
   pub own : unwrap_or (at value_cmp key new) (Some row) ≡ unwrap_or (at value_cmp key old) None
   pub others : (other : Value) → is_at (value_cmp other) key ≡ false → at value_cmp other new ≡ at value_cmp other old
 
 -- over the old rows the changes show the new ones
-pub record Turns (k : ℕ) (old new : List (List Value)) (changes : RowEntries) : Type 0 where
+pub record TurnsInto (k : ℕ) (old new : List (List Value)) (changes : RowEntries) : Type 0 where
   pub rises : KeysRise value_cmp changes
   pub rows : merged value_cmp (keyed k old) changes ≡ keyed k new

@@ -259,7 +259,7 @@ impl RowMap {
     /// Fits the change at a row's key to the row: there is none where the row stays as it is, and one
     /// that takes the row out where there was none.
     pub fn settle(&mut self, key: Value, row: &[Value]) -> Result<(), NoMemory>
-        ensures settles { OnOk result (entries.Settles key row.now self.old self.new) }
+        ensures settles { OnOk result (entries.SettlesRow key row.now self.old self.new) }
         ensures rises { OnOk result (KeysRise value_cmp self.new) }
     {
         self.rises();

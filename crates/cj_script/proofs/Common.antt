@@ -4,11 +4,11 @@ pub use Rattle.cj_core.proofs.Common.{CanCountRequests, Setup, WorldState, flat_
 pub use Rattle.cj_cluster.specs.Script.Lines.{HasNoSpace, IsNumber, MoveLine, moved_lines, row_text, with_line_feed}
 pub use Rattle.cj_cluster.specs.declared.moves.Move.{Move}
 pub use Rattle.cj_model.specs.Sql.Names.{is_name}
-pub use Rattle.cj_outside.specs.Lines.{Reading}
+pub use Rattle.cj_outside.specs.Lines.{ReaderState}
 pub use Rattle.cj_outside.specs.Streams.{most}
-pub use Rattle.cj_script.specs.Reading.{CutsWord, Finds, IsNamed, IsNumbered, NamesDump}
+pub use Rattle.cj_script.specs.Reading.{CutsWord, FindsValue, IsNamed, IsNumbered, NamesBackendAndDump}
 pub use Rattle.cj_script.specs.Script.{DoesLine, audit_line}
-pub use Rattle.cj_script.specs.Steps.{PlaysOrEnds, PlaysWritten, ReadsLine, Stays}
+pub use Rattle.cj_script.specs.Steps.{PlaysOrEnds, PlaysWritten, ReadsLine, DoesNothing}
 pub use Rattle.cj_script.specs.declared.play.ScriptEnd.{ScriptEnd}
 pub use Rattle.std.proofs.lemmas.Bool.{and_parts, false≢true}
 pub use Rattle.std.proofs.lemmas.List.Concat.{flat_map-cons}

@@ -3,7 +3,7 @@ use Rattle.std.proofs.Common.{◌≡◌, ℕ, ◌+◌, ◌<◌, ◌≤◌, ◌^�
 use Rattle.cj_core.proofs.Common.{All-cons, All-nil, IsWorld, LogView, SessionView, WorldState, take_all, with_log}
 use Rattle.std.proofs.lemmas.List.Quantifiers.{position-Some}
 use Rattle.std.proofs.Math.Seq.{take-append_seam, drop-append_seam}
-use Rattle.cj_script.proofs.Common.{Appends, bytes_eq, Consumes, flat_map, flat_map-cons, most, Move, Reading, ScriptEnd}
+use Rattle.cj_script.proofs.Common.{Appends, bytes_eq, Consumes, flat_map, flat_map-cons, most, Move, ReaderState, ScriptEnd}
 use Rattle.cj_outside.proofs.Joined.{appends_then, appends_more}
 use Rattle.cj_cluster.specs.declared.moves.Move.TheVariants.{Open, Close, Schedule, Abort, Apply, End, Read, Arm, Disable, Replay, Enable, Mark, Dump, Load}
 use Rattle.cj_state.proofs.Common.{Core, faults_after, faults_of, session_at}
@@ -13,7 +13,7 @@ use Rattle.cj_cluster.proofs.Chains.{run_chained}
 use Rattle.cj_script.specs.declared.play.ScriptEnd.TheVariants.{Done, Line as Line', ReadFault, WriteFault, Spent, NoMemory}
 use Rattle.cj_script.specs.Script.{audit_line, filled, moves_in, given_in, step_lines, faults_through, log_faults_through, AreSteps, MakesInPart, PlaysLine, Plays, LieIn, InTurns, Step}
 use Rattle.cj_script.specs.Script.Step.{Moves, Audits}
-use Rattle.cj_script.specs.Steps.{ReadsLine, Starves, Stays, PlaysOrEnds}
+use Rattle.cj_script.specs.Steps.{ReadsLine, Starves, DoesNothing, PlaysOrEnds}
 use Rattle.cj_script.proofs.Filled.{filled_audit, filled_empty, filled_move, filled_more}
 use Rattle.cj_script.proofs.Playing.{plays_more, longer, Playing, AtLine}
 
@@ -207,13 +207,13 @@ turns_stay tells names left left' held held' held'' c mid z q stays =
     }
 
 -- where nothing at all was done
-starves_none : (held held' : Option (List ℕ)) (c z : WorldState) → Stays held held' c z → Starves held held' c z
+starves_none : (held held' : Option (List ℕ)) (c z : WorldState) → DoesNothing held held' c z → Starves held held' c z
 starves_none held held' c z stays = record { same = stays.0 ∙ ap (λ (x : WorldState). with_log c x.recovery_log) (sym stays.0); log_faults = ap (λ (x : WorldState). x.recovery_log.faults) stays.0; nothing = stays.1 }
 
 -- ---- ends
 
 -- some bytes were taken in place of a line
-end_takes : (left left' : Option (List ℕ)) (old new : Reading) (number : ℕ) (last : ScriptEnd) → ReadsLine left left' old new number (Err last) → (bytes : List ℕ) × Consumes left left' bytes
+end_takes : (left left' : Option (List ℕ)) (old new : ReaderState) (number : ℕ) (last : ScriptEnd) → ReadsLine left left' old new number (Err last) → (bytes : List ℕ) × Consumes left left' bytes
 end_takes left left' old new number Done (bytes, took, none) = (bytes, took.consumed)
 end_takes left left' old new number (Line' n) (same, (bytes, took, came)) = (bytes, took.consumed)
 end_takes left left' old new number ReadFault (bytes, took, none) = (bytes, took.consumed)
@@ -223,7 +223,7 @@ end_takes left left' old new number NoMemory (bytes, took) = (bytes, took)
 
 module _ (tells armable : Bool) (names : List (List ℕ)) (c : WorldState) (world : IsWorld tells c) (as_many : length names ≡ c.core.placement.backends) (can : CanCountRequests c.core (2 ^ 61)) where
   -- in place of a line the script came to its end
-  pub read_end_turns : (left mid left' held held' : Option (List ℕ)) (old new : Reading) (count number : ℕ) (z : WorldState) (last : ScriptEnd) → Playing tells armable names left mid held held' c old.rest old.taken count z
+  pub read_end_turns : (left mid left' held held' : Option (List ℕ)) (old new : ReaderState) (count number : ℕ) (z : WorldState) (last : ScriptEnd) → Playing tells armable names left mid held held' c old.rest old.taken count z
       → old.taken ≤ most → ReadsLine mid left' old new number (Err last) → InTurns tells names left left' held held' c z
   read_end_turns left mid left' held held' old new count number z last p le reads =
       let more = end_takes mid left' old new number last reads in

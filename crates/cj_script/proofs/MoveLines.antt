@@ -7,7 +7,7 @@ use Rattle.cj_cluster.specs.declared.moves.Move.TheVariants as move
 use Rattle.cj_script.specs.declared.verb.Verb.{Verb}
 use Rattle.cj_script.specs.declared.verb.Verb.TheVariants.{Open, Close, Write, Abort, Apply, End, Read, Arm, Disable, Replay, Enable, Mark, Dump, Load}
 use Rattle.cj_script.specs.declared.verb.TheConstants.{VERBS}
-use Rattle.cj_script.specs.Reading.{Finds, find_verb, verb_of, word_of, CutsWord, Arguments}
+use Rattle.cj_script.specs.Reading.{FindsValue, find_verb, verb_of, word_of, CutsWord, Arguments}
 use Rattle.cj_script.proofs.Cutting.{no_space, cut_one}
 
 -- ---- words of verbs
@@ -150,7 +150,7 @@ arguments_of names line word rest v m c e h = elim (line_parts names line m h) [
 ]
 
 -- a line with a verb and more
-found_behind : (names : List (List ℕ)) (line word rest : List ℕ) (v : Verb) (o : Option Move) → CutsWord line word (Some rest) → verb_of word ≡ Some v → Finds (Arguments names v rest) o → Finds (MoveLine names line) o
+found_behind : (names : List (List ℕ)) (line word rest : List ℕ) (v : Verb) (o : Option Move) → CutsWord line word (Some rest) → verb_of word ≡ Some v → FindsValue (Arguments names v rest) o → FindsValue (MoveLine names line) o
 found_behind names line word rest v None c e f = λ m h. f m (arguments_of names line word rest v m c e h)
 found_behind names line word rest v (Some x) c e f =
     let spelled : line ≡ word_of v ++ 32 ∷ rest = c.1 ∙ ap (λ (w : List ℕ). w ++ 32 ∷ rest) (found_word word v e) in
@@ -167,6 +167,6 @@ no_verb names line word rest c e m h = elim (line_parts names line m h) [
 ]
 
 -- the same of what parsing answers
-pub read_behind : {E : Type 0} (names : List (List ℕ)) (line word rest : List ℕ) (v : Verb) (r : Result (Option Move) E) → CutsWord line word (Some rest) → verb_of word ≡ Some v → IfOk r (Finds (Arguments names v rest)) → IfOk r (Finds (MoveLine names line))
+pub read_behind : {E : Type 0} (names : List (List ℕ)) (line word rest : List ℕ) (v : Verb) (r : Result (Option Move) E) → CutsWord line word (Some rest) → verb_of word ≡ Some v → IfOk r (FindsValue (Arguments names v rest)) → IfOk r (FindsValue (MoveLine names line))
 read_behind names line word rest v (Ok o) c e f = found_behind names line word rest v o c e f
 read_behind names line word rest v (Err x) c e f = tt

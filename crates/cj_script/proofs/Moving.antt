@@ -1,6 +1,6 @@
 -- Lines that are moves: how many can come.
 use Rattle.std.proofs.Common.{◌≡◌, ℕ, ◌+◌, ◌*◌, ◌-◌, ◌≤◌, ◌^◌, Bool, List, [], length, Option, Result, inl, inr, sym, ap, subst, arith}
-use Rattle.cj_script.proofs.Common.{CanCountRequests, Core, most, PlaysOrEnds, PlaysWritten, Reading, ScriptEnd, WorldState}
+use Rattle.cj_script.proofs.Common.{CanCountRequests, Core, most, PlaysOrEnds, PlaysWritten, ReaderState, ScriptEnd, WorldState}
 use Rattle.cj_cluster.proofs.Growth.{moves_grow, can_count}
 use Rattle.cj_core.specs.Played.{given_of}
 use Rattle.cj_script.specs.Script.{PlaysLine, MakesMove}
@@ -35,7 +35,7 @@ pub counting_start : (rest : List ℕ) (taken : ℕ) (c : WorldState) → rest �
 counting_start rest taken c none zero can = record { more = 2 ^ 61; can = can; room = omega (arith, ap length none, zero) }
 
 -- after a line there is room for those that can still come
-pub counting_played : (tells armable : Bool) (names : List (List ℕ)) (held held' : Option (List ℕ)) (old new : Reading) (line : List ℕ) (c z : WorldState)
+pub counting_played : (tells armable : Bool) (names : List (List ℕ)) (held held' : Option (List ℕ)) (old new : ReaderState) (line : List ℕ) (c z : WorldState)
     → Counting (length old.rest) old.taken c → Advances old new line → new.taken ≤ most → PlaysWritten tells armable names held held' c line z → Counting (length new.rest) new.taken z
 counting_played tells armable names held held' old new line c z k a few h =
     line_cases tells armable names c line h.written z (Counting (length new.rest) new.taken z) h.plays

@@ -5,9 +5,9 @@ use Rattle.std.proofs.lemmas.List.Concat.{flat_map-append, flat_map-cons}
 use Rattle.std.proofs.lemmas.List.Elements.{All-push, All-nil}
 use Rattle.std.specs.Global.{Vec}
 use Rattle.std.specs.Io.KnownBytes.{Consumes, Appends, IsAtEnd}
-use Rattle.cj_script.proofs.Common.{flat_map, PlaysOrEnds, PlaysWritten, ReadsLine, ScriptEnd, Stays, with_line_feed, WorldState}
+use Rattle.cj_script.proofs.Common.{flat_map, PlaysOrEnds, PlaysWritten, ReadsLine, ScriptEnd, DoesNothing, with_line_feed, WorldState}
 use Rattle.cj_outside.specs.declared.lines.Line.{Line}
-use Rattle.cj_outside.specs.Lines.{line_limit, Reading, IsInLine, IsLine, EndsLine, LastLine, TookBytes}
+use Rattle.cj_outside.specs.Lines.{line_limit, ReaderState, IsInLine, IsLine, EndsLine, LastLine, TookBytes}
 use Rattle.cj_outside.proofs.Joined.{consumes_then, consumes_none, appends_then, appends_none}
 use Rattle.cj_outside.specs.declared.lines.Line.TheVariants.{Text, Long}
 use Rattle.cj_script.specs.declared.play.ScriptEnd.TheVariants.{Done, Line as Line', ReadFault, WriteFault, Spent, NoMemory}
@@ -120,7 +120,7 @@ playing_longer tells armable names left mid left' held held' c rest bytes count 
     }
 
 -- the reader took more
-playing_taken : (tells armable : Bool) (names : List (List ℕ)) (left mid left' held held' : Option (List ℕ)) (c : WorldState) (old new : Reading) (count : ℕ) (z : WorldState) (bytes : List ℕ)
+playing_taken : (tells armable : Bool) (names : List (List ℕ)) (left mid left' held held' : Option (List ℕ)) (c : WorldState) (old new : ReaderState) (count : ℕ) (z : WorldState) (bytes : List ℕ)
     → Playing tells armable names left mid held held' c old.rest old.taken count z → TookBytes mid left' old new bytes → Playing tells armable names left left' held held' c (old.rest ++ bytes) new.taken count z
 playing_taken tells armable names left mid left' held held' c old new count z bytes p took =
     subst (λ (n : ℕ). Playing tells armable names left left' held held' c (old.rest ++ bytes) n count z) (sym took.count)
@@ -143,18 +143,18 @@ pub record AtLine (tells armable : Bool) (names : List (List ℕ)) (left left' h
   pub shorter : length line + length rest ≤ length whole
 
 -- the reader has come behind a line
-pub record Advances (old new : Reading) (line : List ℕ) : Type 0 where
+pub record Advances (old new : ReaderState) (line : List ℕ) : Type 0 where
   pub by : length line + length new.rest + old.taken ≤ length old.rest + new.taken
   pub some : length new.rest + old.taken < length old.rest + new.taken
 
 -- a line came, whole or too long
-pub record LineCame (tells armable : Bool) (names : List (List ℕ)) (left left' held held' : Option (List ℕ)) (c : WorldState) (old new : Reading) (count : ℕ) (z : WorldState) (line : Line) : Type 0 where
+pub record LineCame (tells armable : Bool) (names : List (List ℕ)) (left left' held held' : Option (List ℕ)) (c : WorldState) (old new : ReaderState) (count : ℕ) (z : WorldState) (line : Line) : Type 0 where
   pub text : List ℕ
   pub is : IsLine text line
   pub advances : Advances old new text
   pub at : AtLine tells armable names left left' held held' c text new.rest new.taken count z
 
-pub line_came : (tells armable : Bool) (names : List (List ℕ)) (left mid left' held held' : Option (List ℕ)) (c : WorldState) (old new : Reading) (count : ℕ) (z : WorldState) (bytes : List ℕ) (line : Line)
+pub line_came : (tells armable : Bool) (names : List (List ℕ)) (left mid left' held held' : Option (List ℕ)) (c : WorldState) (old new : ReaderState) (count : ℕ) (z : WorldState) (bytes : List ℕ) (line : Line)
     → Playing tells armable names left mid held held' c old.rest old.taken count z → TookBytes mid left' old new bytes → EndsLine old new bytes line ⊎ LastLine left' old new bytes line
     → LineCame tells armable names left left' held held' c old new count z line
 line_came tells armable names left mid left' held held' c old new count z bytes line p took (inl h) =
@@ -218,7 +218,7 @@ line_played tells armable names left left' held held' held'' c line rest bytes c
 
 -- nothing was done and nothing written
 playing_stays : (tells armable : Bool) (names : List (List ℕ)) (left left' held held' held'' : Option (List ℕ)) (c : WorldState) (taken : List ℕ) (lines : List (List ℕ)) (rest : List ℕ) (mid z : WorldState)
-    → Played tells armable names left left' held held' c taken lines rest mid → Stays held' held'' mid z → Played tells armable names left left' held held'' c taken lines rest z
+    → Played tells armable names left left' held held' c taken lines rest mid → DoesNothing held' held'' mid z → Played tells armable names left left' held held'' c taken lines rest z
 playing_stays tells armable names left left' held held' held'' c taken lines rest mid z p stays = record {
   lines_are = p.lines_are;
   consumed = p.consumed;
@@ -231,7 +231,7 @@ playing_stays tells armable names left left' held held' held'' c taken lines res
 -- ---- ends
 
 -- in place of a line the script came to its end
-pub read_end : (tells armable : Bool) (names : List (List ℕ)) (left mid left' held held' : Option (List ℕ)) (c : WorldState) (old new : Reading) (count number : ℕ) (z : WorldState) (last : ScriptEnd)
+pub read_end : (tells armable : Bool) (names : List (List ℕ)) (left mid left' held held' : Option (List ℕ)) (c : WorldState) (old new : ReaderState) (count number : ℕ) (z : WorldState) (last : ScriptEnd)
     → Playing tells armable names left mid held held' c old.rest old.taken count z → number ≡ count + 1 → ReadsLine mid left' old new number (Err last) → CameTo tells armable names left left' held held' c last z
 read_end tells armable names left mid left' held held' c old new count number z Done p is (bytes, took, none) =
     let now = playing_taken tells armable names left mid left' held held' c old new count z bytes p took in
@@ -316,12 +316,12 @@ play_end tells armable names left left' held held' held'' c line rest bytes coun
 -- ---- the next line
 
 -- The next line was read.
-pub record TextCame (tells armable : Bool) (names : List (List ℕ)) (left left' held held' : Option (List ℕ)) (c : WorldState) (old new : Reading) (count : ℕ) (z : WorldState) (line : List ℕ) : Type 0 where
+pub record TextCame (tells armable : Bool) (names : List (List ℕ)) (left left' held held' : Option (List ℕ)) (c : WorldState) (old new : ReaderState) (count : ℕ) (z : WorldState) (line : List ℕ) : Type 0 where
   pub advances : Advances old new line
   pub short : length line ≤ line_limit
   pub at : AtLine tells armable names left left' held held' c line new.rest new.taken count z
 
-pub text_came : (tells armable : Bool) (names : List (List ℕ)) (left mid left' held held' : Option (List ℕ)) (c : WorldState) (old new : Reading) (count number : ℕ) (z : WorldState) (v : Vec ℕ)
+pub text_came : (tells armable : Bool) (names : List (List ℕ)) (left mid left' held held' : Option (List ℕ)) (c : WorldState) (old new : ReaderState) (count number : ℕ) (z : WorldState) (v : Vec ℕ)
     → Playing tells armable names left mid held held' c old.rest old.taken count z → ReadsLine mid left' old new number (Ok v) → TextCame tells armable names left left' held held' c old new count z v.items
 text_came tells armable names left mid left' held held' c old new count number z v p (bytes, took, came) =
     let l = line_came tells armable names left mid left' held held' c old new count z bytes (Text v) p took came in

@@ -7,7 +7,7 @@ use Rattle.cj_model.specs.declared.select.Select.{Select}
 use Rattle.cj_cluster.specs.declared.moves.Move.TheVariants as move
 use Rattle.cj_model.specs.Sql.PlainRequests.{is_plain}
 use Rattle.cj_cluster.specs.Script.Lines.{IsPlainSql, IsWrite}
-use Rattle.cj_script.specs.Reading.{IsNumbered, IsNamed, NamesDump, OfDump, Writes, Queries, IsQuery, Finds}
+use Rattle.cj_script.specs.Reading.{IsNumbered, IsNamed, NamesBackendAndDump, OfDump, SaysWrite, Queries, IsQuery, FindsValue}
 use Rattle.cj_script.proofs.Cutting.{numbered_one, named_one}
 use Rattle.cj_model.specs.Sql.Grammar.{TextReadsAs, ReadsAsNothing}
 
@@ -26,17 +26,17 @@ plain_nothing text none s i = none s i.reads
 -- ---- writes
 
 -- no number begins the arguments
-pub no_writes : (rest : List ℕ) → ((n : ℕ) (more : List ℕ) → IsNumbered rest n more → ⊥) → (m : Move) → Writes rest m → ⊥
+pub no_writes : (rest : List ℕ) → ((n : ℕ) (more : List ℕ) → IsNumbered rest n more → ⊥) → (m : Move) → SaysWrite rest m → ⊥
 no_writes rest none m w = none w.session w.sql w.numbered
 
 -- no write follows the number
-pub no_write : (rest : List ℕ) (s : ℕ) (sql : List ℕ) → IsNumbered rest s sql → ((r : Request) → IsWrite sql r → ⊥) → (m : Move) → Writes rest m → ⊥
+pub no_write : (rest : List ℕ) (s : ℕ) (sql : List ℕ) → IsNumbered rest s sql → ((r : Request) → IsWrite sql r → ⊥) → (m : Move) → SaysWrite rest m → ⊥
 no_write rest s sql i none m w =
     let k = numbered_one rest s w.session sql w.sql i w.numbered in
     none w.request (subst (λ z. IsWrite z w.request) (sym k.1) w.reads)
 
 -- one does
-pub one_write : (rest : List ℕ) (s : ℕ) (sql : List ℕ) (r : Request) → IsNumbered rest s sql → IsWrite sql r → ((x : Request) → IsWrite sql x → x ≡ r) → Writes rest (move.Schedule s r) × ((m : Move) → Writes rest m → m ≡ move.Schedule s r)
+pub one_write : (rest : List ℕ) (s : ℕ) (sql : List ℕ) (r : Request) → IsNumbered rest s sql → IsWrite sql r → ((x : Request) → IsWrite sql x → x ≡ r) → SaysWrite rest (move.Schedule s r) × ((m : Move) → SaysWrite rest m → m ≡ move.Schedule s r)
 one_write rest s sql r i h one = (
   record { session = s; sql = sql; numbered = i; request = r; reads = h; is = refl },
   λ m w.
@@ -81,24 +81,24 @@ one_query names rest s more b sql x i h reads one = (
 )
 
 -- the query that the one plain request is
-pub found_query : (text : List ℕ) (r : Request) (o : Option Select) → IsPlainSql text r → ((s : Request) → IsPlainSql text s → s ≡ r) → IsQuery r o → Finds (λ x. IsPlainSql text (request.Select x)) o
+pub found_query : (text : List ℕ) (r : Request) (o : Option Select) → IsPlainSql text r → ((s : Request) → IsPlainSql text s → s ≡ r) → IsQuery r o → FindsValue (λ x. IsPlainSql text (request.Select x)) o
 found_query text r None reads one h = λ x i. h x (sym (one (request.Select x) i))
 found_query text r (Some y) reads one h = (subst (IsPlainSql text) h reads, λ x i. let same = one (request.Select x) i in cc)
 
 -- ---- dumps
 
 -- no backend's name begins the arguments
-pub no_dump : (names : List (List ℕ)) (rest : List ℕ) → ((b : ℕ) (more : List ℕ) → IsNamed names rest b more → ⊥) → (x : ℕ × List ℕ) → NamesDump names rest x → ⊥
+pub no_dump : (names : List (List ℕ)) (rest : List ℕ) → ((b : ℕ) (more : List ℕ) → IsNamed names rest b more → ⊥) → (x : ℕ × List ℕ) → NamesBackendAndDump names rest x → ⊥
 no_dump names rest none x d = none x.0 x.1 d.0
 
 -- what follows it is no name
-pub no_dump_name : (names : List (List ℕ)) (rest : List ℕ) (b : ℕ) (word : List ℕ) → IsNamed names rest b word → is_name word ≡ false → (x : ℕ × List ℕ) → NamesDump names rest x → ⊥
+pub no_dump_name : (names : List (List ℕ)) (rest : List ℕ) (b : ℕ) (word : List ℕ) → IsNamed names rest b word → is_name word ≡ false → (x : ℕ × List ℕ) → NamesBackendAndDump names rest x → ⊥
 no_dump_name names rest b word h other x d =
     let n = named_one names rest b x.0 word x.1 h d.0 in
     false≢true (sym other ∙ (ap is_name n.1 ∙ d.1))
 
 -- or it is
-pub one_dump : (names : List (List ℕ)) (rest : List ℕ) (b : ℕ) (word : List ℕ) → IsNamed names rest b word → is_name word ≡ true → Finds (NamesDump names rest) (Some (b, word))
+pub one_dump : (names : List (List ℕ)) (rest : List ℕ) (b : ℕ) (word : List ℕ) → IsNamed names rest b word → is_name word ≡ true → FindsValue (NamesBackendAndDump names rest) (Some (b, word))
 one_dump names rest b word h is = (
   (h, is),
   λ x d.
@@ -107,12 +107,12 @@ one_dump names rest b word h is = (
 )
 
 -- the move of what is found
-pub of_dump : (names : List (List ℕ)) (make : ℕ → List ℕ → Move) (rest : List ℕ) (x : ℕ × List ℕ) → Finds (NamesDump names rest) (Some x) → Finds (OfDump names make rest) (Some (make x.0 x.1))
+pub of_dump : (names : List (List ℕ)) (make : ℕ → List ℕ → Move) (rest : List ℕ) (x : ℕ × List ℕ) → FindsValue (NamesBackendAndDump names rest) (Some x) → FindsValue (OfDump names make rest) (Some (make x.0 x.1))
 of_dump names make rest x found = (
   (x.0, x.1, found.0, refl),
   λ m d. let same = found.1 (d.0, d.1) d.2 in d.3 ∙ ap (λ (z : ℕ × List ℕ). make z.0 z.1) same,
 )
 
 -- none is the move of nothing
-pub of_no_dump : (names : List (List ℕ)) (make : ℕ → List ℕ → Move) (rest : List ℕ) → Finds (NamesDump names rest) None → Finds (OfDump names make rest) None
+pub of_no_dump : (names : List (List ℕ)) (make : ℕ → List ℕ → Move) (rest : List ℕ) → FindsValue (NamesBackendAndDump names rest) None → FindsValue (OfDump names make rest) None
 of_no_dump names make rest none m d = none (d.0, d.1) d.2

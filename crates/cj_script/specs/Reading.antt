@@ -17,9 +17,9 @@ use Rattle.cj_script.specs.declared.verb.Verb.TheVariants.{Open, Close, Write, A
 use Rattle.cj_script.specs.declared.verb.TheConstants.{VERBS}
 
 -- one value, and no other, is as the fact says; or none is
-abbrev pub Finds : {A : Type 0} → (A → Type 0) → Option A → Type 0
-Finds {A} P None = (x : A) → P x → ⊥
-Finds {A} P (Some y) = P y × ((x : A) → P x → x ≡ y)
+abbrev pub FindsValue : {A : Type 0} → (A → Type 0) → Option A → Type 0
+FindsValue {A} P None = (x : A) → P x → ⊥
+FindsValue {A} P (Some y) = P y × ((x : A) → P x → x ≡ y)
 
 -- ---- verbs
 
@@ -91,7 +91,7 @@ abbrev pub ReadsClose : List ℕ → Move → Type 0
 ReadsClose rest m = (s : ℕ) × IsNumber rest s × (m ≡ move.Close s)
 
 -- a session's number and a write
-pub record Writes (rest : List ℕ) (m : Move) : Type 0 where
+pub record SaysWrite (rest : List ℕ) (m : Move) : Type 0 where
   pub session : ℕ
   pub sql : List ℕ
   pub numbered : IsNumbered rest session sql
@@ -128,18 +128,18 @@ abbrev pub ReadsMark : List ℕ → Move → Type 0
 ReadsMark rest m = (is_name rest ≡ true) × (m ≡ move.Mark rest)
 
 -- a backend's name and that of a dump
-abbrev pub NamesDump : List (List ℕ) → List ℕ → ℕ × List ℕ → Type 0
-NamesDump names rest (b, name) = IsNamed names rest b name × (is_name name ≡ true)
+abbrev pub NamesBackendAndDump : List (List ℕ) → List ℕ → ℕ × List ℕ → Type 0
+NamesBackendAndDump names rest (b, name) = IsNamed names rest b name × (is_name name ≡ true)
 
 -- and the move of these
 abbrev pub OfDump : List (List ℕ) → (ℕ → List ℕ → Move) → List ℕ → Move → Type 0
-OfDump names make rest m = (b : ℕ) × (name : List ℕ) × NamesDump names rest (b, name) × (m ≡ make b name)
+OfDump names make rest m = (b : ℕ) × (name : List ℕ) × NamesBackendAndDump names rest (b, name) × (m ≡ make b name)
 
 -- behind this verb and a space these are the arguments of the move
 abbrev pub Arguments : List (List ℕ) → Verb → List ℕ → Move → Type 0
 Arguments names Open rest m = ReadsOpen rest m
 Arguments names Close rest m = ReadsClose rest m
-Arguments names Write rest m = Writes rest m
+Arguments names Write rest m = SaysWrite rest m
 Arguments names Abort rest m = ReadsAbort rest m
 Arguments names Apply rest m = Names names move.Apply rest m
 Arguments names End rest m = ⊥

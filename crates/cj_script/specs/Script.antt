@@ -15,7 +15,7 @@ use Rattle.cj_cluster.specs.Moves.Cores.{Core}
 use Rattle.cj_cluster.specs.Moves.Moves.{MoveResult, MovesTo, last_number}
 use Rattle.cj_cluster.specs.Moves.Runs.{RunsMoves, IsBetweenReplies, IsChained}
 use Rattle.cj_cluster.specs.Script.Lines.{MoveLine, moved_lines, not_now_text, with_line_feed}
-use Rattle.cj_state.specs.Worlds.{WorldState, IsSameButLog}
+use Rattle.cj_state.specs.Worlds.{WorldState, IsSameWorldButLog}
 use Rattle.cj_moves.specs.Armings.{HasArmings}
 use Rattle.cj_state.specs.ArmedCells.{armings_of}
 use Rattle.cj_world_audit.specs.Audits.{audit_text}
@@ -218,7 +218,7 @@ pub record PlayedSome (tells armable : Bool) (names : List (List ℕ)) (left lef
   pub rest : List ℕ
   pub stopped : WorldState
   pub played : Played tells armable names left left' held held' c taken lines rest stopped
-  pub same : IsSameButLog stopped z
+  pub same : IsSameWorldButLog stopped z
   pub log_faults : z.recovery_log.faults ≡ stopped.recovery_log.faults
 
 -- The line makes its move or is an audit, and of what it gives a front was written, which is not the whole.

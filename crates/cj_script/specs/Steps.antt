@@ -7,14 +7,14 @@ use Rattle.cj_outside.specs.declared.lines.Line.TheVariants.{Text, Long, End}
 use Rattle.cj_outside.specs.declared.lines.LineError.TheVariants as errors
 use Rattle.cj_outside.specs.declared.sink.OutError.{OutError}
 use Rattle.cj_outside.specs.declared.sink.OutError.TheVariants as out_errors
-use Rattle.cj_outside.specs.Lines.{Reading, GivesLine}
-use Rattle.cj_state.specs.Worlds.{WorldState, IsSameButLog}
+use Rattle.cj_outside.specs.Lines.{ReaderState, GivesLine}
+use Rattle.cj_state.specs.Worlds.{WorldState, IsSameWorldButLog}
 use Rattle.cj_script.specs.Script.{PlaysLine, MakesInPart, IsNoMove}
 use Rattle.cj_script.specs.declared.play.ScriptEnd.{ScriptEnd}
 use Rattle.cj_script.specs.declared.play.ScriptEnd.TheVariants.{Done, Line, ReadFault, WriteFault, Spent, NoMemory}
 
 -- the next line of the source, or the end that comes in place of it; `number` is the line's
-abbrev pub ReadsLine : Option (List ℕ) → Option (List ℕ) → Reading → Reading → ℕ → Result (Vec ℕ) ScriptEnd → Type 0
+abbrev pub ReadsLine : Option (List ℕ) → Option (List ℕ) → ReaderState → ReaderState → ℕ → Result (Vec ℕ) ScriptEnd → Type 0
 ReadsLine left left' old new number (Ok v) = GivesLine left left' old new (Ok (Text v))
 ReadsLine left left' old new number (Err Done) = GivesLine left left' old new (Ok End)
 ReadsLine left left' old new number (Err (Line n)) = (n ≡ number) × GivesLine left left' old new (Ok Long)
@@ -30,12 +30,12 @@ pub record PlaysWritten (tells armable : Bool) (names : List (List ℕ)) (held h
   pub appended : Appends held held' written
 
 -- nothing was done and nothing written
-abbrev pub Stays : Option (List ℕ) → Option (List ℕ) → WorldState → WorldState → Type 0
-Stays held held' c z = (z ≡ c) × Appends held held' []
+abbrev pub DoesNothing : Option (List ℕ) → Option (List ℕ) → WorldState → WorldState → Type 0
+DoesNothing held held' c z = (z ≡ c) × Appends held held' []
 
 -- memory was wanting: nothing was done but that bytes behind the items of the log may be left, and nothing written
 pub record Starves (held held' : Option (List ℕ)) (c z : WorldState) : Type 0 where
-  pub same : IsSameButLog c z
+  pub same : IsSameWorldButLog c z
   pub log_faults : z.recovery_log.faults ≡ c.recovery_log.faults
   pub nothing : Appends held held' []
 
@@ -43,7 +43,7 @@ pub record Starves (held held' : Option (List ℕ)) (c z : WorldState) : Type 0 
 pub record RefusesLine (names : List (List ℕ)) (held held' : Option (List ℕ)) (c : WorldState) (line : List ℕ) (z : WorldState) : Type 0 where
   pub some : line ≢ []
   pub none : IsNoMove names line
-  pub stays : Stays held held' c z
+  pub stays : DoesNothing held held' c z
 
 -- the line played and what it gives was written, or the script ends in it
 abbrev pub PlaysOrEnds : (tells armable : Bool) → List (List ℕ) → Option (List ℕ) → Option (List ℕ) → WorldState → List ℕ → ℕ → Result (Unit {0}) ScriptEnd → WorldState → Type 0

@@ -3,7 +3,7 @@
 ghost use Rattle.std.specs.Prelude.{◌≡◌, ◌≤◌, ◌<◌, ◌↔◌, length, IfOk, IsTrue, is_some};
 ghost use Rattle.cj_model.specs.Sql.PlainRequests.{act_of};
 ghost use Rattle.cj_cluster.specs.Script.Lines.{IsPlainSql, IsUser, IsWrite};
-ghost use Rattle.cj_script.specs.Reading.{Arguments, NamesDump, OfDump, ReadsAbort, ReadsClose, ReadsMark, Finds, IsQuery, ReadsOpen, Queries, Writes};
+ghost use Rattle.cj_script.specs.Reading.{Arguments, NamesBackendAndDump, OfDump, ReadsAbort, ReadsClose, ReadsMark, FindsValue, IsQuery, ReadsOpen, Queries, SaysWrite};
 
 use crate::verb::Verb;
 use crate::words::{backend, is_word, named, number, numbered};
@@ -20,7 +20,7 @@ fn is_short(word: &[u8]) -> bool
 
 /// "open USER"
 fn open(alloc: Global, rest: &[u8]) -> Result<Option<Move>, NoMemory>
-    ensures { IfOk result (Finds (ReadsOpen rest.now)) }
+    ensures { IfOk result (FindsValue (ReadsOpen rest.now)) }
 {
     if !is_short(rest) || !is_word(rest) {
         return Ok(None);
@@ -33,7 +33,7 @@ fn open(alloc: Global, rest: &[u8]) -> Result<Option<Move>, NoMemory>
 
 /// "close S"
 fn close(rest: &[u8]) -> Option<Move>
-    ensures { Finds (ReadsClose rest.now) result }
+    ensures { FindsValue (ReadsClose rest.now) result }
 {
     match number(rest) {
         Some(session) => Some(Move::Close { session }),
@@ -43,7 +43,7 @@ fn close(rest: &[u8]) -> Option<Move>
 
 /// The request of a text, which may call neither the clock nor random numbers.
 fn plain_request(alloc: Global, sql: &[u8]) -> Result<Option<Request>, NoMemory>
-    ensures { IfOk result (Finds (IsPlainSql sql.now)) }
+    ensures { IfOk result (FindsValue (IsPlainSql sql.now)) }
 {
     match read(alloc, sql) {
         Ok(request) => {
@@ -70,7 +70,7 @@ fn is_for_log(request: &Request) -> bool
 }
 
 fn plain_write(alloc: Global, sql: &[u8]) -> Result<Option<Request>, NoMemory>
-    ensures { IfOk result (Finds (IsWrite sql.now)) }
+    ensures { IfOk result (FindsValue (IsWrite sql.now)) }
 {
     match plain_request(alloc, sql)? {
         Some(request) => {
@@ -86,7 +86,7 @@ fn plain_write(alloc: Global, sql: &[u8]) -> Result<Option<Request>, NoMemory>
 
 /// "write S SQL"
 fn write(alloc: Global, rest: &[u8]) -> Result<Option<Move>, NoMemory>
-    ensures { IfOk result (Finds (Writes rest.now)) }
+    ensures { IfOk result (FindsValue (SaysWrite rest.now)) }
 {
     let Some((session, sql)) = numbered(rest) else {
         return Ok(None);
@@ -99,7 +99,7 @@ fn write(alloc: Global, rest: &[u8]) -> Result<Option<Move>, NoMemory>
 
 /// "abort TX"
 fn abort(rest: &[u8]) -> Option<Move>
-    ensures { Finds (ReadsAbort rest.now) result }
+    ensures { FindsValue (ReadsAbort rest.now) result }
 {
     match number(rest) {
         Some(tx) => Some(Move::Abort { tx }),
@@ -118,7 +118,7 @@ fn as_query(request: Request) -> Option<Select>
 }
 
 fn plain_query(alloc: Global, sql: &[u8]) -> Result<Option<Select>, NoMemory>
-    ensures { IfOk result (Finds (λ select. IsPlainSql sql.now (Request.Select select))) }
+    ensures { IfOk result (FindsValue (λ select. IsPlainSql sql.now (Request.Select select))) }
 {
     match plain_request(alloc, sql)? {
         Some(request) => Ok(as_query(request)),
@@ -129,7 +129,7 @@ fn plain_query(alloc: Global, sql: &[u8]) -> Result<Option<Select>, NoMemory>
 /// "read S B SQL"
 fn query(alloc: Global, names: &Names, rest: &[u8]) -> Result<Option<Move>, NoMemory>
     requires { length names.now ≤ BACKEND_LIMIT }
-    ensures { IfOk result (Finds (Queries names.now rest.now)) }
+    ensures { IfOk result (FindsValue (Queries names.now rest.now)) }
 {
     let Some((session, more)) = numbered(rest) else {
         return Ok(None);
@@ -145,7 +145,7 @@ fn query(alloc: Global, names: &Names, rest: &[u8]) -> Result<Option<Move>, NoMe
 
 /// "mark NAME"
 fn mark(rest: &[u8]) -> Option<Move>
-    ensures { Finds (ReadsMark rest.now) result }
+    ensures { FindsValue (ReadsMark rest.now) result }
 {
     match Name::of(rest) {
         Some(name) => Some(Move::Mark { name }),
@@ -156,7 +156,7 @@ fn mark(rest: &[u8]) -> Option<Move>
 /// "B NAME"
 fn dump_named(names: &Names, rest: &[u8]) -> Option<(u8, Name)>
     requires { length names.now ≤ BACKEND_LIMIT }
-    ensures { Finds (NamesDump names.now rest.now) result }
+    ensures { FindsValue (NamesBackendAndDump names.now rest.now) result }
 {
     let Some((b, word)) = named(names, rest) else {
         return None;
@@ -170,7 +170,7 @@ fn dump_named(names: &Names, rest: &[u8]) -> Option<(u8, Name)>
 /// "dump B NAME"
 fn dump(names: &Names, rest: &[u8]) -> Option<Move>
     requires { length names.now ≤ BACKEND_LIMIT }
-    ensures { Finds (OfDump names.now Move.Dump rest.now) result }
+    ensures { FindsValue (OfDump names.now Move.Dump rest.now) result }
 {
     match dump_named(names, rest) {
         Some((b, name)) => Some(Move::Dump { b, name }),
@@ -181,7 +181,7 @@ fn dump(names: &Names, rest: &[u8]) -> Option<Move>
 /// "load B NAME"
 fn load(names: &Names, rest: &[u8]) -> Option<Move>
     requires { length names.now ≤ BACKEND_LIMIT }
-    ensures { Finds (OfDump names.now Move.Load rest.now) result }
+    ensures { FindsValue (OfDump names.now Move.Load rest.now) result }
 {
     match dump_named(names, rest) {
         Some((b, name)) => Some(Move::Load { b, name }),
@@ -197,7 +197,7 @@ pub fn arguments(
     rest: &[u8],
 ) -> Result<Option<Move>, NoMemory>
     requires { length names.now ≤ BACKEND_LIMIT }
-    ensures { IfOk result (Finds (Arguments names.now verb rest.now)) }
+    ensures { IfOk result (FindsValue (Arguments names.now verb rest.now)) }
 {
     match verb {
         Verb::Open => open(alloc, rest),

@@ -2,7 +2,7 @@
 
 ghost use Rattle.std.specs.Prelude.{◌≤◌, length, IfOk};
 ghost use Rattle.cj_cluster.specs.Script.Lines.{MoveLine};
-ghost use Rattle.cj_script.specs.Reading.{Finds, IsOneWordMove};
+ghost use Rattle.cj_script.specs.Reading.{FindsValue, IsOneWordMove};
 
 use crate::arguments::arguments;
 use crate::verb::verb_of;
@@ -13,7 +13,7 @@ use std::alloc::Global;
 
 /// The move of a line that is one word.
 fn lone(word: &[u8]) -> Option<Move>
-    ensures { Finds (IsOneWordMove word.now) result }
+    ensures { FindsValue (IsOneWordMove word.now) result }
 {
     if word == b"end".as_slice() {
         Some(Move::End)
@@ -25,7 +25,7 @@ fn lone(word: &[u8]) -> Option<Move>
 /// The move of a line, which is given without its LF; none exactly where it is no move's line. Backends go by their names.
 pub fn parse_move(alloc: Global, names: &Names, line: &[u8]) -> Result<Option<Move>, NoMemory>
     requires { length names.now ≤ BACKEND_LIMIT }
-    ensures { IfOk result (Finds (MoveLine names.now line.now)) }
+    ensures { IfOk result (FindsValue (MoveLine names.now line.now)) }
 {
     match cut(line) {
         (word, Some(rest)) => match verb_of(word) {

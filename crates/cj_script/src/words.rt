@@ -6,7 +6,7 @@ ghost use Rattle.std.specs.List.{list_all};
 ghost use Rattle.std.specs.Str.{bytes_eq};
 ghost use Rattle.std.specs.Option.{option_copied};
 ghost use Rattle.cj_cluster.specs.Script.Lines.{IsBackend, IsNumber, HasNoSpace};
-ghost use Rattle.cj_script.specs.Reading.{CutsWord, Finds, IsFirstSpace, IsNamed, IsNumbered};
+ghost use Rattle.cj_script.specs.Reading.{CutsWord, FindsValue, IsFirstSpace, IsNamed, IsNumbered};
 ghost use Rattle.cj_script.specs.Reading as spec;
 
 use cj_model::{BACKEND_LIMIT, Name, Names};
@@ -68,7 +68,7 @@ fn is_numeral(word: &[u8]) -> bool
 
 /// The number of a word.
 pub fn number(word: &[u8]) -> Option<u64>
-    ensures { Finds (IsNumber word.now) result }
+    ensures { FindsValue (IsNumber word.now) result }
 {
     if !is_numeral(word) {
         return None;
@@ -105,7 +105,7 @@ fn place_of(names: &[Name], word: &[u8]) -> Option<usize>
 /// The first backend of this name.
 pub fn backend(names: &Names, word: &[u8]) -> Option<u8>
     requires { length names.now ≤ BACKEND_LIMIT }
-    ensures { Finds (IsBackend names.now word.now) result }
+    ensures { FindsValue (IsBackend names.now word.now) result }
 {
     if !is_word(word) {
         return None;

@@ -8,7 +8,7 @@ use Rattle.cj_dump.specs.declared.error.DumpError.{DumpError}
 use Rattle.cj_dump.specs.declared.error.DumpError.TheVariants.{Cut, BadField, Order, NoMemory}
 use Rattle.cj_dump.specs.DumpLayout.{dump}
 use Rattle.cj_dump.specs.Dumps.{dump_bytes, start_of, Decodes, IsDump}
-use Rattle.cj_dump.specs.Layouts.{Reading}
+use Rattle.cj_dump.specs.Layouts.{FieldReading}
 use Rattle.cj_dump.proofs.DumpLaws.{dump_law, dump_spelled}
 use Rattle.cj_dump.proofs.Dumped.{dump_fits}
 use Rattle.cj_dump.proofs.Decoded.{one_reading}
@@ -39,7 +39,7 @@ reads_back d is = dump_law.again d (start_of (dump_bytes d)) (record { rest = []
 
 pub dumps_back : (dumps : List Dump) → AllByRecursion IsDump dumps → dumps_in (bodies_of dumps) ≡ dumps
 dumps_back [] all = refl
-dumps_back (d ∷ dumps) all = ap (λ (r : Reading Dump). read_dump r ++ dumps_in (bodies_of dumps)) (reads_back d all.0) ∙ ap (λ (ds : List Dump). d ∷ ds) (dumps_back dumps all.1)
+dumps_back (d ∷ dumps) all = ap (λ (r : FieldReading Dump). read_dump r ++ dumps_in (bodies_of dumps)) (reads_back d all.0) ∙ ap (λ (ds : List Dump). d ∷ ds) (dumps_back dumps all.1)
 
 pub dumps_are : (bodies : List (List ℕ)) (dumps : List Dump) → AreBodies bodies dumps → dumps_in bodies ≡ dumps
 dumps_are bodies dumps are = ap dumps_in are.same ∙ dumps_back dumps are.each

@@ -12,7 +12,7 @@ use Rattle.cj_dump.specs.declared.error.DumpError.{DumpError}
 use Rattle.cj_dump.specs.declared.error.DumpError.TheVariants as decoding
 use Rattle.cj_dump.specs.DumpLayout.{dump}
 use Rattle.cj_dump.specs.Dumps.{dump_bytes, start_of, IsDump}
-use Rattle.cj_dump.specs.Layouts.{Reading}
+use Rattle.cj_dump.specs.Layouts.{FieldReading}
 use Rattle.cj_shelf.specs.declared.error.ShelfError.{ShelfError}
 use Rattle.cj_shelf.specs.declared.error.ShelfError.TheVariants as errors
 use Rattle.cj_shelf.specs.declared.label.Label.{Label}
@@ -51,7 +51,7 @@ IsFirstPlace name names None = is_among name names ≡ false
 -- ---- dumps of bodies
 
 -- what was read of a body, in a list
-abbrev pub read_dump : Reading Dump → List Dump
+abbrev pub read_dump : FieldReading Dump → List Dump
 read_dump (Ok x) = x.0 ∷ []
 read_dump (Err e) = []
 

@@ -1,7 +1,7 @@
 -- What a world keeps where a backend is asked, and what it answers.
 use Rattle.std.proofs.Common.{◌≡◌, ℕ, ◌<◌, ◌≤◌, Bool, true, false, cond, List, length, get_or, Option, None, Some, IfSome, Result, Ok, Err, refl, ap, sym, ◌∙◌, subst, arith, ⊎_elim}
 use Rattle.std.specs.Prelude.{◌↔◌, IsErrOf}
-use Rattle.cj_state.proofs.Common.{Asked, BookState, CacheState, cases_lt, CellReadError, ChangesCell, Core, core_of, CoreInvariant, database_after, Dump, Event, events_left, false_from_ne_true, HasNoRoomForOne, HoldsPart, hosts_all, Kept, log, logins_of, LogsInToAsk, LogView, OpenSession, part, position_at, ReadFailed, Select, session_at, Slot, Tally, with_cache, with_event, with_log, WorldState, Balance, with_balance}
+use Rattle.cj_state.proofs.Common.{Asked, BookState, CacheState, cases_lt, CellReadError, ChangesCell, Core, core_of, CoreInvariant, database_after, Dump, Event, events_left, false_from_ne_true, HasNoRoomForOne, HoldsPart, hosts_all, Kept, log, logins_of, AskedUnderLogin, LogView, OpenSession, part, position_at, ReadFailed, Select, session_at, Slot, Tally, with_cache, with_event, with_log, WorldState, Balance, with_balance}
 use Rattle.cj_model.specs.Database.Queries.{ask}
 use Rattle.cj_model.specs.Database.Outcomes.{IsAsked}
 use Rattle.cj_cluster.specs.Moves.Moves.{happened, read_number, IsFarEnough}
@@ -83,12 +83,12 @@ module _ {tells : Bool} {w : WorldState} {numbers : List ℕ} {tally : Tally} (k
 
   -- under which login it was asked
   pub noted_logins : {S : Type 0} {How : CellState → CellState → Type 0} {now : List CellState} (ch : ChangesCell w.cells b How now) (k new : BookState S) (s q : ℕ) (d : CellReadError) (e : AskError) (given : List ℕ) → Notes k s q b d e new
-      → LogsInForRead ch.before.login given (Err d) ch.after.login → LogsInToAsk b given (Err e) (logins_of old.cells) (logins_of now)
+      → LogsInForRead ch.before.login given (Err d) ch.after.login → AskedUnderLogin b given (Err e) (logins_of old.cells) (logins_of now)
   noted_logins {S} {How} {now} ch k new s q d e given notes logs =
       let by : (z : CellReadError) → d ≡ z → LogsInForRead ch.before.login given (Err z) ch.after.login = λ z is. subst (λ (y : CellReadError). LogsInForRead ch.before.login given (Err y) ch.after.login) is logs in
       let same = changed_logins kept seen within ch in
       let may = may_change_under kept seen within ch given in
-      notes_cases (λ (y : AskError) (z : BookState S). LogsInToAsk b given (Err y) (logins_of old.cells) (logins_of now)) k new s q b d e notes
+      notes_cases (λ (y : AskError) (z : BookState S). AskedUnderLogin b given (Err y) (logins_of old.cells) (logins_of now)) k new s q b d e notes
       (λ is. same (by errors.Out is)) (λ p is. same (by (errors.Behind p) is)) (λ is. same (by errors.NoMemory is)) (λ is space. may (by errors.Failed is)) (λ is n full. may (by errors.Failed is))
 
 -- what becomes of the core

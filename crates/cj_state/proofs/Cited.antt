@@ -3,7 +3,7 @@ pub use Rattle.cj_board.specs.Points.{max_word}
 pub use Rattle.cj_board.specs.Steps.{at_position}
 pub use Rattle.cj_board.specs.Views.{pass_of, pass_without_tokens, position_note_of}
 pub use Rattle.cj_book.proofs.Serving.{picked_below}
-pub use Rattle.cj_book.specs.Events.{Appends}
+pub use Rattle.cj_book.specs.Events.{AppendsEvent}
 pub use Rattle.cj_cluster.proofs.Now.{CanApply, CanReplay, can_apply, can_replay}
 pub use Rattle.cj_cluster.proofs.Pushed.{at-prefix, free-ended, log-prefix, log-same, prefix_get, prefix_length}
 pub use Rattle.cj_cluster.proofs.Soundness.{abort_fits, session_entry_fits}
@@ -23,7 +23,7 @@ pub use Rattle.cj_model.specs.declared.answer.Asked.TheVariants.{Rows}
 pub use Rattle.cj_model.specs.declared.cached.Cached.{Cached}
 pub use Rattle.cj_model.specs.declared.limits.TheConstants.{EVENT_LIMIT}
 pub use Rattle.cj_place.specs.Layouts.{tables_at}
-pub use Rattle.cj_replica.specs.Cells.{CatchesUp, IsNextEntry}
+pub use Rattle.cj_replica.specs.Cells.{CatchesUp, IsEntryAfter}
 pub use Rattle.cj_replica.specs.Seated.{view_after_entry, view_after_read}
 pub use Rattle.cj_state.proofs.Asking.{answers, errs, noted_core, noted_fault, noted_logins, noted_want, notes_cases, wanted}
 pub use Rattle.cj_state.proofs.Catching.{can_take, took}
@@ -47,7 +47,7 @@ pub use Rattle.cj_state.proofs.Serving.{candidates_serve}
 pub use Rattle.cj_state.proofs.Taking.{applies, kept_applied, kept_replayed, replays, took_armings, took_asks, took_counts, took_logins, took_others}
 pub use Rattle.cj_state.specs.ArmedCells.{armed_at}
 pub use Rattle.cj_state.specs.Asking.{read_over}
-pub use Rattle.cj_state.specs.CalledLogins.{LogsInToAsk, asked_for, logins_of}
+pub use Rattle.cj_state.specs.CalledLogins.{AskedUnderLogin, asked_for, logins_of}
 pub use Rattle.cj_state.specs.Effects.{AnswersOpen}
 pub use Rattle.cj_state.specs.Proving.Seated.{AreAt, HasLearned, KnowsPositions}
 pub use Rattle.cj_state.specs.Worlds.{IsWorld, accounts_of, log_view, with_balance, with_cache, with_log}

@@ -54,7 +54,7 @@ pub use Rattle.cj_shelf.specs.MemoryShelves.{taken_of}
 pub use Rattle.cj_shelf.specs.Shelves.{first_of}
 pub use Rattle.cj_state.specs.ArmedCells.{armings_after, armings_of}
 pub use Rattle.cj_state.specs.Asking.{answered_by, asks_of, asks_with}
-pub use Rattle.cj_state.specs.CalledLogins.{CallsUnder, LogsInToAsk, LogsInToTake, MayCallUnder, logins_of, next_user}
+pub use Rattle.cj_state.specs.CalledLogins.{CallsUnder, AskedUnderLogin, LogsInToTake, MayCallUnder, logins_of, next_user}
 pub use Rattle.cj_state.specs.Effects.{HadLoggedRoom, HadRoom, HaveFailed, Notes, SchedulesAs}
 pub use Rattle.cj_state.specs.Faults.{did_fail, faults_after, faults_of}
 pub use Rattle.cj_state.specs.Held.{IsHeld, failed_contents}

@@ -4,7 +4,7 @@ use Rattle.std.specs.Prelude.{IsErrAnd}
 use Rattle.cj_state.proofs.Common.{Arming, both_ways, CacheState, can_load, cases_eq, CellError, ChangesCell, CoreInvariant, database_after, Dump, failed_contents, find_dump, get_or-set_other, HasBegunDrafts, HoldsPart, is_enabled, is_free, IsCell, IsSoundDump, Kept, length-map, Load, log, LogView, map-set, not_now, part, position_at, Slot, spent, Stance, taken_of, Tally, with_cache, with_log, with_stance, WorldState, Balance, with_balance}
 use Rattle.cj_cluster.proofs.Effects.{sound_loaded}
 use Rattle.cj_replica.specs.declared.replica.CellError.TheVariants as errors
-use Rattle.cj_replica.specs.Cells.{CellState, Loads, SpendsArmingAtLoad}
+use Rattle.cj_replica.specs.Cells.{CellState, LoadsDatabase, SpendsArmingAtLoad}
 use Rattle.cj_replica.proofs.HeldParts.{drafts_loaded, holds_loaded}
 use Rattle.cj_state.proofs.ChangedCell.{cell_there, core_stays, has_cell, kept_cell, stands_there, with_cells, world_with_cell}
 use Rattle.cj_state.proofs.Dumped.{taken_all}
@@ -54,7 +54,7 @@ module _ {tells : Bool} {w : WorldState} {numbers : List ℕ} {tally : Tally} (k
         right = subst (λ (z : WorldState). tells ≡ true → d.db ≡ part z.core.placement b (database_after (log z.core.history) d.position)) (sym seen) held;
       }
 
-  module _ (within : b < old.core.placement.backends) {db : List Slot} {n : ℕ} (can : CanLoadFrom tells w b db n) {r : Result Unit CellError} {now : List CellState} (ch : ChangesCell w.cells b (λ x y. Loads tells x db n r y) now) where
+  module _ (within : b < old.core.placement.backends) {db : List Slot} {n : ℕ} (can : CanLoadFrom tells w b db n) {r : Result Unit CellError} {now : List CellState} (ch : ChangesCell w.cells b (λ x y. LoadsDatabase tells x db n r y) now) where
     -- it was out
     was_out : ch.before.position ≡ None
     was_out = sym (stands_there kept seen within ch.before ch.value) ∙ (ap (λ (z : WorldState). position_at z.core b) (sym seen) ∙ can.out)

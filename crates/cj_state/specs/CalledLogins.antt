@@ -47,13 +47,13 @@ LogsInToTake b login did.Failed old new = MayCallUnder b login old new
 LogsInToTake b login did.Starved old new = MayCallUnder b login old new
 
 -- backend b was asked for a user who has this login there
-abbrev pub LogsInToAsk : ℕ → List ℕ → Result (Asked × ℕ) AskError → List (Option (List ℕ)) → List (Option (List ℕ)) → Type 0
-LogsInToAsk b login (Ok answered) old new = CallsUnder b login old new
-LogsInToAsk b login (Err ask_errors.Out) old new = new ≡ old
-LogsInToAsk b login (Err (ask_errors.Behind p)) old new = new ≡ old
-LogsInToAsk b login (Err ask_errors.Failed) old new = MayCallUnder b login old new
-LogsInToAsk b login (Err (ask_errors.Unnoted n)) old new = MayCallUnder b login old new
-LogsInToAsk b login (Err ask_errors.NoMemory) old new = new ≡ old
+abbrev pub AskedUnderLogin : ℕ → List ℕ → Result (Asked × ℕ) AskError → List (Option (List ℕ)) → List (Option (List ℕ)) → Type 0
+AskedUnderLogin b login (Ok answered) old new = CallsUnder b login old new
+AskedUnderLogin b login (Err ask_errors.Out) old new = new ≡ old
+AskedUnderLogin b login (Err (ask_errors.Behind p)) old new = new ≡ old
+AskedUnderLogin b login (Err ask_errors.Failed) old new = MayCallUnder b login old new
+AskedUnderLogin b login (Err (ask_errors.Unnoted n)) old new = MayCallUnder b login old new
+AskedUnderLogin b login (Err ask_errors.NoMemory) old new = new ≡ old
 
 -- the login that the user of backend b's next entry has there
 abbrev pub login_to_take : WorldState → ℕ → List ℕ

@@ -66,8 +66,8 @@ abbrev pub CacheFollowsLog : WorldState → WorldState → Type 0
 CacheFollowsLog old new = FollowsLog (log old.core.history) (log new.core.history) old.cache new.cache
 
 -- the world is as before, but maybe for its log
-abbrev pub IsSameButLog : WorldState → WorldState → Type 0
-IsSameButLog old new = new ≡ with_log old new.recovery_log
+abbrev pub IsSameWorldButLog : WorldState → WorldState → Type 0
+IsSameWorldButLog old new = new ≡ with_log old new.recovery_log
 
 -- the log's bytes keep the entries and markers of the history
 abbrev pub KeepsHistory : WorldState → Type 0

@@ -12,7 +12,7 @@ ghost use Rattle.cj_backend.specs.Backends.{arming_after};
 ghost use Rattle.cj_board.specs.Points.{fault_tokens_of};
 ghost use Rattle.cj_board.specs.Seats.{board_id, pass_board};
 ghost use Rattle.cj_cluster.specs.History.Histories.{database_after, log};
-ghost use Rattle.cj_replica.specs.Cells.{CellState, GivesContents, Loads, Reads};
+ghost use Rattle.cj_replica.specs.Cells.{CellState, GivesContents, LoadsDatabase, ReadsAnswer};
 ghost use Rattle.cj_replica.specs.Seated.{SeatedCell};
 ghost use Rattle.cj_state.specs.Proving.Seated.{AreAt, AreNumbered, HasLearned, SpendsAtMostOne};
 ghost use Rattle.cj_state.specs.Proving.Taking.{CanTake, TookEntry};
@@ -150,7 +150,7 @@ pub fn read_at<B: Backend, S: Store>(
     requires at { AreAt (board_id board.now) (pass_board pass.old) book.old.board cells.old.items }
     ensures at { AreAt (board_id board.now) (pass_board pass.new) book.new.board cells.new.items }
     ensures heard { HasLearned book.old book.new }
-    ensures read { ChangesCell (states_of cells.old.items) b (λ x y. Reads x login.now tx select.now least result y) (states_of cells.new.items) }
+    ensures read { ChangesCell (states_of cells.old.items) b (λ x y. ReadsAnswer x login.now tx select.now least result y) (states_of cells.new.items) }
     ensures token { IsErrOf result CellReadError.Failed → fault_tokens_of b book.old.view.fault_tokens < fault_tokens_of b book.new.view.fault_tokens }
 {
     let answer = cells[b as usize].read(board, login, tx, select, least);
@@ -199,7 +199,7 @@ pub fn load_at<B: Backend, S: Store>(
     requires held { (d : CellState) → B.tells ≡ true → db ≡ part (slice_index_or (states_of cells.old.items) b d).placement (slice_index_or (states_of cells.old.items) b d).b (database_after (log book.old.state.history) position) }
     ensures at { AreAt (board_id board.now) (pass_board pass.new) book.new.board cells.new.items }
     ensures heard { HasLearned book.old book.new }
-    ensures loaded { ChangesCell (states_of cells.old.items) b (λ x y. Loads B.tells x db position result y) (states_of cells.new.items) }
+    ensures loaded { ChangesCell (states_of cells.old.items) b (λ x y. LoadsDatabase B.tells x db position result y) (states_of cells.new.items) }
 {
     tell(board, pass, book, cells, b);
     cells[b as usize].load(board, db, position)

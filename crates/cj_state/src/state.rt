@@ -18,7 +18,7 @@ ghost use Rattle.std.specs.Bool.{OnTrue};
 ghost use Rattle.cj_auth.specs.Admission.{admits};
 ghost use Rattle.cj_auth.specs.Kept.{IsUserName};
 ghost use Rattle.cj_replica.specs.Cells.{CellState};
-ghost use Rattle.cj_state.specs.Worlds.{accounts_of, log_view, with_balance, with_cache, CacheFollowsLog, IsFresh, IsSameButLog, IsWorld, KeepsHistory};
+ghost use Rattle.cj_state.specs.Worlds.{accounts_of, log_view, with_balance, with_cache, CacheFollowsLog, IsFresh, IsSameWorldButLog, IsWorld, KeepsHistory};
 ghost use Rattle.cj_model.specs.declared.cached.Cached.{Cached};
 ghost use Rattle.cj_model.specs.Cluster.Caching.{after_keep, after_look, answer_kept, empty_cache, has_answer};
 ghost use Rattle.cj_model.specs.declared.answer.Asked.TheVariants.{Rows};
@@ -41,7 +41,7 @@ ghost use Rattle.cj_state.specs.Proving.Seated.{AreAt};
 ghost use Rattle.cj_state.specs.Seats.{states_of};
 ghost use Rattle.cj_state.specs.Sharing.{IsTakenApart};
 ghost use Rattle.cj_board.specs.Seats.{board_id, pass_board};
-ghost use Rattle.cj_state.specs.CalledLogins.{asked_for, login_to_take, logins_of, LogsInToAsk, LogsInToTake};
+ghost use Rattle.cj_state.specs.CalledLogins.{asked_for, login_to_take, logins_of, AskedUnderLogin, LogsInToTake};
 ghost use Rattle.cj_state.specs.Effects.{own_entry};
 ghost use Rattle.cj_state.specs.Faults.{did_fail, faults_after, faults_of};
 ghost use Rattle.cj_state.specs.Effects.{AnswersOpen, Asks, asked_core, failed_asked, HaveFailed, with_core, core_aborted, core_marked, core_scheduled, SchedulesAs, HadLoggedRoom, HadRoom};
@@ -647,7 +647,7 @@ impl<B: Backend, S: Store> State<B, S> {
         requires fits { IsFitEntry (log self.old.core.history) entry }
         ensures scheduled { SchedulesAs self.old.core entry result }
         ensures core { self.new.core ≡ core_scheduled self.old.core s entry result }
-        ensures same { IsSameButLog (with_cache (with_core self.old self.new.core) self.new.cache) self.new }
+        ensures same { IsSameWorldButLog (with_cache (with_core self.old self.new.core) self.new.cache) self.new }
         ensures cache { CacheFollowsLog self.old self.new }
         ensures checked { OnErr result (¬ IsErrOf result BookError.LogFault → ¬ IsErrOf result BookError.NoMemory → self.new ≡ self.old) }
         ensures cause { CountsFault (IsErrOf result BookError.LogFault) self.old.recovery_log.faults self.new.recovery_log.faults }
@@ -669,7 +669,7 @@ impl<B: Backend, S: Store> State<B, S> {
         requires fits { IsFitEntry (log self.old.core.history) entry }
         ensures scheduled { SchedulesAs self.old.core entry result }
         ensures core { self.new.core ≡ core_aborted self.old.core entry result }
-        ensures same { IsSameButLog (with_cache (with_core self.old self.new.core) self.new.cache) self.new }
+        ensures same { IsSameWorldButLog (with_cache (with_core self.old self.new.core) self.new.cache) self.new }
         ensures cache { CacheFollowsLog self.old self.new }
         ensures checked { OnErr result (¬ IsErrOf result BookError.LogFault → ¬ IsErrOf result BookError.NoMemory → self.new ≡ self.old) }
         ensures cause { CountsFault (IsErrOf result BookError.LogFault) self.old.recovery_log.faults self.new.recovery_log.faults }
@@ -788,7 +788,7 @@ impl<B: Backend, S: Store> State<B, S> {
         ensures answered { asks_of self.new.cells ≡ asks_with (asks_of self.old.cells) (answered_by b result) }
         ensures others { (k : ℕ) → k ≢ b → slice_get self.new.cells k ≡ slice_get self.old.cells k }
         ensures armings { armings_of self.new.cells ≡ armings_of self.old.cells }
-        ensures logins { LogsInToAsk b (login_of (accounts_of self.old) (asked_for self.old.core.sessions s (option_copied user.entry)) b) result (logins_of self.old.cells) (logins_of self.new.cells) }
+        ensures logins { AskedUnderLogin b (login_of (accounts_of self.old) (asked_for self.old.core.sessions s (option_copied user.entry)) b) result (logins_of self.old.cells) (logins_of self.new.cells) }
         ensures want { IsErrOf result AskError.NoMemory → self.new ≡ self.old }
         ensures recovery_log { self.new.recovery_log ≡ self.old.recovery_log }
         ensures setup { self.new.setup ≡ self.old.setup }
@@ -894,7 +894,7 @@ impl<B: Backend, S: Store> State<B, S> {
         ensures room { HadLoggedRoom self.old.core result }
         ensures number { IfOk result (λ n. n ≡ moves.last_number self.old.core) }
         ensures core { self.new.core ≡ core_marked self.old.core name.now result }
-        ensures same { IsSameButLog (with_core self.old self.new.core) self.new }
+        ensures same { IsSameWorldButLog (with_core self.old self.new.core) self.new }
         ensures checked { OnErr result (¬ IsErrOf result BookError.LogFault → ¬ IsErrOf result BookError.NoMemory → self.new ≡ self.old) }
         ensures cause { CountsFault (IsErrOf result BookError.LogFault) self.old.recovery_log.faults self.new.recovery_log.faults }
     {

@@ -10,7 +10,7 @@ pub use Rattle.cj_dml.proofs.PlanLaws.{from_some}
 pub use Rattle.cj_rowstore.proofs.Common.{Rises, append-nil, by_key, cell, insert_entry, map-append}
 pub use Rattle.cj_rowstore.proofs.ConversionLaws.{draft_put, filled, puts_rise, table_filled, turned_all, turned_more}
 pub use Rattle.cj_rowstore.specs.Entries.{KeysRise}
-pub use Rattle.cj_rowstore.specs.RowEntries.{RowEntries, Settles, Turns, puts}
+pub use Rattle.cj_rowstore.specs.RowEntries.{RowEntries, SettlesRow, TurnsInto, puts}
 pub use Rattle.cj_rowstore.specs.Stored.{IsChangeOf, rows_after}
 pub use Rattle.cj_table.proofs.CarriedLaws.{carried_is_database}
 pub use Rattle.cj_table.proofs.Common.{All, IsSlot, None, Option, Schema, Slot, Some, Turned, Value, append_assoc, by_table, bytes_eq, change_into, deref, fold, name_cmp, nat_cmp, position, put_by, seen, slot_of, table_of, table_written, value_cmp}

@@ -2,7 +2,7 @@
 
 ghost use Rattle.std.specs.Prelude.{◌≡◌, All, None, Some, IfOk, OnOk};
 ghost use Rattle.cj_model.specs.Database.Tables.{IsSlot, IsTable, Rises, by_key};
-ghost use Rattle.cj_rowstore.specs.RowEntries.{Turns};
+ghost use Rattle.cj_rowstore.specs.RowEntries.{TurnsInto};
 ghost use Rattle.cj_rowstore.specs.RowEntries as entries;
 
 use cj_model::{Db, Draft, Duplicate, NoMemory, Row, Rows, Slot, Table, copies};
@@ -25,7 +25,7 @@ fn puts(alloc: Global, place: usize, rows: Rows) -> Result<RowMap, NoMemory>
 fn changes_to(alloc: Global, place: usize, old: Scan, new: Rows) -> Result<RowMap, NoMemory>
     requires old { Rises (by_key place) old }
     requires new { Rises (by_key place) new }
-    ensures { IfOk result (λ changes. Turns place old.entry new changes) }
+    ensures { IfOk result (λ changes. TurnsInto place old.entry new changes) }
 {
     let mut changes = puts(alloc, place, new)?;
     changes.rises();

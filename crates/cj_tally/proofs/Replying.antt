@@ -26,7 +26,7 @@ use Rattle.cj_cluster.specs.History.Histories.{database_after, ended_count, open
 use Rattle.cj_cluster.specs.History.Transactions.{takes_part}
 use Rattle.cj_cluster.proofs.Pushed.{ends-last, log-same}
 use Rattle.cj_tally.specs.declared.tally.Tally.{Tally}
-use Rattle.cj_tally.specs.Tallies.{outcome_or_done, AnswersByTally, AreTargets, HaveReported, IsRightOutcome, IsTallyOf, IsUnfinished, Refuses, RepliesTo}
+use Rattle.cj_tally.specs.Tallies.{outcome_or_done, AnswersByTally, AreTargets, HaveReported, IsRightOutcome, IsTallyOf, IsUnfinished, RefusesEntry, RepliesTo}
 
 -- the targets that are in neither mask
 abbrev pub spared_of : ℕ → ℕ → ℕ → ℕ
@@ -80,7 +80,7 @@ module _ (t : Tally) (targets : ℕ) (fits : targets < 2 ^ 32) (fits_failed : t.
 
   -- ---- the reply
 
-  pub replies_unfinished : (r : Refusal) → targets ≢ 0 → spared_of targets t.failed t.starved ≡ 0 → Refuses t.failed t.starved r → RepliesTo t targets (reply.Refused r)
+  pub replies_unfinished : (r : Refusal) → targets ≢ 0 → spared_of targets t.failed t.starved ≡ 0 → RefusesEntry t.failed t.starved r → RepliesTo t targets (reply.Refused r)
   replies_unfinished r ne none how = record { unfinished = λ u. (r, how, refl); finished = λ no. absurd (no (none_spared ne none)) }
 
   pub replies_finished : (z : Reply) → (targets ≢ 0 → spared_of targets t.failed t.starved ≡ 0 → ⊥) → z ≡ outcome_reply (outcome_or_done t.first_outcome) → RepliesTo t targets z

@@ -80,8 +80,8 @@ pub record IsUnfinished (t : Tally) (targets : ℕ) : Type 0 where
   pub all : (b : ℕ) → in_mask targets b ≡ true → (in_mask t.failed b ≡ true) ⊎ (in_mask t.starved b ≡ true)
 
 -- the refusal of such an entry
-abbrev pub Refuses : ℕ → ℕ → Refusal → Type 0
-Refuses failed starved refusal =
+abbrev pub RefusesEntry : ℕ → ℕ → Refusal → Type 0
+RefusesEntry failed starved refusal =
     ((failed ≢ 0) × (refusal ≡ record { code = UNFINISHED; a = failed; b = starved })) ⊎ ((failed ≡ 0) × (refusal ≡ record { code = STARVED_ALL; a = 0; b = starved }))
 
 -- an outcome that was given; an entry in which no backend had a part is done
@@ -91,7 +91,7 @@ outcome_or_done (Some o) = o
 
 -- what an entry with these targets is answered: that no target finished it, or else the first outcome
 pub record RepliesTo (t : Tally) (targets : ℕ) (reply : Reply) : Type 0 where
-  pub unfinished : IsUnfinished t targets → (refusal : Refusal) × Refuses t.failed t.starved refusal × (reply ≡ Refused refusal)
+  pub unfinished : IsUnfinished t targets → (refusal : Refusal) × RefusesEntry t.failed t.starved refusal × (reply ≡ Refused refusal)
   pub finished : (IsUnfinished t targets → ⊥) → reply ≡ outcome_reply (outcome_or_done t.first_outcome)
 
 -- the mask has the targets of an entry that was scheduled at this history

@@ -3,7 +3,7 @@
 ghost use Rattle.std.specs.Prelude.{◌≡◌, ◌<◌, ℕ, Bool, List};
 ghost use Rattle.cj_model.specs.Cluster.Placements.{Placement};
 ghost use Rattle.cj_model.specs.declared.request.Entry.{Entry};
-ghost use Rattle.cj_tally.specs.Tallies.{no_reports, with_report, AnswersByTally, IsReportOf, IsTallyOf, Refuses, RepliesTo};
+ghost use Rattle.cj_tally.specs.Tallies.{no_reports, with_report, AnswersByTally, IsReportOf, IsTallyOf, RefusesEntry, RepliesTo};
 
 use cj_cluster::Did;
 use cj_model::{Outcome, Refusal, Reply, STARVED_ALL, UNFINISHED, with_bit};
@@ -23,7 +23,7 @@ pub struct Tally {
 
 /// The refusal of an entry that no target finished.
 fn unfinished(failed: u32, starved: u32) -> Refusal
-    ensures { Refuses failed starved result }
+    ensures { RefusesEntry failed starved result }
 {
     if failed != 0 {
         Refusal {

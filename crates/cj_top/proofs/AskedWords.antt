@@ -1,7 +1,7 @@
 -- What follows from what words were read as.
 use Rattle.std.proofs.Common.{◌≡◌, ◌↔◌, inl, inr, ℕ, List, Option, None, Some, subst}
 use Rattle.cj_top.proofs.Common.{Command, Gen, Log, Pipe, Script}
-use Rattle.cj_args.specs.Words.{Asks, Says}
+use Rattle.cj_args.specs.Words.{AsksCommand, Says}
 use Rattle.cj_args.specs.declared.asked.Asked.{Asked}
 use Rattle.cj_args.specs.declared.asked.Asked.TheVariants as asked
 use Rattle.cj_args.specs.declared.asked.Topic.{Topic}
@@ -15,7 +15,7 @@ few_said words (Script path) says = tt
 few_said words (Log path) says = tt
 few_said words (Gen path seed count) says = says.2.most
 
-module _ (words : List (List ℕ)) (found : Option Asked) (reads : (a : Asked) → (found ≡ Some a) ↔ Asks words a) where
+module _ (words : List (List ℕ)) (found : Option Asked) (reads : (a : Asked) → (found ≡ Some a) ↔ AsksCommand words a) where
   command_same : (a b : Command) → found ≡ Some (asked.Command a) → Says words b → a ≡ b
   command_same a b is says = let other = (reads (asked.Command b)).1 says in cc (is, other)
 
@@ -33,7 +33,7 @@ module _ (words : List (List ℕ)) (found : Option Asked) (reads : (a : Asked) �
   pub version_is_no_command : (b : Command) → found ≡ Some asked.Version → Says words b → ⊥
   version_is_no_command b is says = let other = (reads (asked.Command b)).1 says in absurd (cc (is, other))
 
-  pub asks_nothing : found ≡ None → (a : Asked) → Asks words a → ⊥
+  pub asks_nothing : found ≡ None → (a : Asked) → AsksCommand words a → ⊥
   asks_nothing is a asks = let other = (reads a).1 asks in absurd (cc (is, other))
 
   pub asks_for_no_text : found ≡ None → AsksForText words → ⊥

@@ -4,7 +4,7 @@ use Rattle.std.specs.declared.option.Option.{Option}
 use Rattle.cj_outside.specs.Streams.{WritesAll}
 use Rattle.cj_outside.specs.declared.sink.OutError.{OutError}
 use Rattle.cj_outside.specs.declared.sink.OutError.TheVariants as out_errors
-use Rattle.cj_args.specs.Words.{Asks}
+use Rattle.cj_args.specs.Words.{AsksCommand}
 use Rattle.cj_args.specs.declared.asked.Asked.TheVariants as asked
 use Rattle.cj_args.specs.declared.asked.Topic.{Topic}
 use Rattle.cj_cluster.specs.declared.session.SessionEnd.{SessionEnd}
@@ -44,7 +44,7 @@ status_of_listing (Err out_errors.NoMemory) = 1
 
 -- the words ask for help or the version
 abbrev pub AsksForText : List (List ℕ) → Type 0
-AsksForText words = ((topic : Topic) × Asks words (asked.Help topic)) ⊎ Asks words asked.Version
+AsksForText words = ((topic : Topic) × AsksCommand words (asked.Help topic)) ⊎ AsksCommand words asked.Version
 
 -- A text was written; where the output failed in it or memory was wanting, the status says so.
 pub record WritesText (held held' : Option (List ℕ)) (status : ℕ) : Type 0 where

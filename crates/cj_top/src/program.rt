@@ -12,7 +12,7 @@ ghost use Rattle.cj_top.specs.Piped.{ComesByPipe};
 ghost use Rattle.cj_top.specs.Program.{AsksForText, WritesText};
 ghost use Rattle.cj_top.specs.Runs.{ComesBy, HasFewStatements, ReadsNoInput, RunsCommand};
 ghost use Rattle.cj_top.specs.Scripted.{ComesByScript};
-ghost use Rattle.cj_args.specs.Words.{Asks, Says};
+ghost use Rattle.cj_args.specs.Words.{AsksCommand, Says};
 ghost use Rattle.cj_args.specs.declared.asked.Asked.{Asked};
 ghost use Rattle.cj_args.specs.declared.asked.Command.{Command};
 
@@ -216,7 +216,7 @@ pub fn run<F: Store, S: Store + Drop, I: Source, O: Sink, E: Sink, C: Clock>(
         ((input.new ≡ input.old) × (output.new ≡ output.old) × (errors.new ≡ errors.old)) (C.moment clock.now) (I.left input.old) (I.left input.new) (O.held output.old) (O.held output.new) (E.held errors.old) (E.held errors.new) (E.faults errors.old) (E.faults errors.new) result) result }
     ensures unread { (command : Command) → Says (map string_bytes words.now) command → ReadsNoInput command → input.new ≡ input.old }
     ensures text { AsksForText (map string_bytes words.now) → WritesText (O.held output.old) (O.held output.new) result × (conf.new ≡ conf.old) × (input.new ≡ input.old) × (errors.new ≡ errors.old) }
-    ensures other { ((asked : Asked) → Asks (map string_bytes words.now) asked → ⊥) → (result ≡ 2) × (conf.new ≡ conf.old) × (input.new ≡ input.old) × (output.new ≡ output.old) × (errors.new ≡ errors.old) }
+    ensures other { ((asked : Asked) → AsksCommand (map string_bytes words.now) asked → ⊥) → (result ≡ 2) × (conf.new ≡ conf.old) × (input.new ≡ input.old) × (output.new ≡ output.old) × (errors.new ≡ errors.old) }
     ensures quiet { result ≢ 3 → result ≢ 8 → result ≢ 10 → errors.new ≡ errors.old }
 
     // Each counted a fault exactly where its status says so: 7 is that of the configuration's store and of the log's. What the errors counted

@@ -12,7 +12,7 @@ use Rattle.cj_cluster.specs.declared.moves.MoveError.TheVariants.{NoMemory}
 use Rattle.cj_core.proofs.Common.{Arms, Disables, DoesMove, Dumps, Enables, Loads, MoveResult, MovesTo, Replays, happened, not_now}
 use Rattle.cj_core.specs.Solos.{SoloState}
 use Rattle.cj_cluster.proofs.Soundness.{by_reason}
-use Rattle.cj_workload.specs.Proving.Keeping.{IsOfBackend, Keeps, enabled_by}
+use Rattle.cj_workload.specs.Proving.Keeping.{IsOfBackend, KeepsSolo, enabled_by}
 use Rattle.cj_workload.specs.Summaries.{enablings, is_enabling}
 
 -- from one core to another so many backends were enabled, and no request was made
@@ -86,7 +86,7 @@ module _ (tells : Bool) (c z : Core) where
 
 module _ (tells : Bool) (a z : SoloState) where
   -- a move
-  pub keeps_made : (m : Move) (g : MoveResult) → IsOfBackend m → MovesTo tells a.world.core m g z.world.core → z.session ≡ a.session → Keeps 0 (enabled_by g) a z
+  pub keeps_made : (m : Move) (g : MoveResult) → IsOfBackend m → MovesTo tells a.world.core m g z.world.core → z.session ≡ a.session → KeepsSolo 0 (enabled_by g) a z
   keeps_made m g kind moves session =
       let kept = keeps_moved tells a.world.core z.world.core m g kind moves in
       record {
@@ -97,7 +97,7 @@ module _ (tells : Bool) (a z : SoloState) where
       }
 
 -- one after another
-pub keeps_both : (n m i j : ℕ) (a b z : SoloState) → Keeps n i a b → Keeps m j b z → Keeps (n + m) (i + j) a z
+pub keeps_both : (n m i j : ℕ) (a b z : SoloState) → KeepsSolo n i a b → KeepsSolo m j b z → KeepsSolo (n + m) (i + j) a z
 keeps_both n m i j a b z h k =
     let q = h.requests in
     let r = k.requests in

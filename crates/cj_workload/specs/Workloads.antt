@@ -64,7 +64,7 @@ pub record TakesTurn (tells : Bool) (a : SoloState) (r : Request) (z : SoloState
   pub fed : tells_want reply ≡ false
 
 -- A move of no session gives this; where it can't be made now it changes nothing. No memory is wanting.
-pub record Makes (tells armable : Bool) (a : SoloState) (m : Move) (given : MoveResult) (z : SoloState) : Type 0 where
+pub record MakesOwnMove (tells armable : Bool) (a : SoloState) (m : Move) (given : MoveResult) (z : SoloState) : Type 0 where
   pub moves : MovesWorld tells armable a.world m given z.world
   pub session : z.session ≡ a.session
   pub fed : gives_want given ≡ false
@@ -72,7 +72,7 @@ pub record Makes (tells armable : Bool) (a : SoloState) (m : Move) (given : Move
 module _ (tells armable : Bool) where
   -- the move gives something
   abbrev pub MakesMove : SoloState → Move → SoloState → Type 0
-  MakesMove a m z = (given : MoveResult) × Makes tells armable a m given z
+  MakesMove a m z = (given : MoveResult) × MakesOwnMove tells armable a m given z
 
   -- ---- backends are armed and brought back
 
@@ -107,7 +107,7 @@ module _ (tells armable : Bool) where
   pub record IsBroughtBack (b : ℕ) (a z : SoloState) : Type 0 where
     pub given : MoveResult
     pub loaded : SoloState
-    pub loads : Makes tells armable a (Load b dump_name) given loaded
+    pub loads : MakesOwnMove tells armable a (Load b dump_name) given loaded
     pub follows : FollowsLoad b given loaded z
 
   -- backend b is brought back, if it is out

@@ -5,9 +5,9 @@ ghost use Rattle.cj_core.specs.Played.{given_of};
 ghost use Rattle.cj_moves.specs.Steps.{IsMet};
 ghost use Rattle.cj_place.specs.Layouts.{placement_of};
 ghost use Rattle.cj_workload.specs.Proving.Keeping as keeping;
-ghost use Rattle.cj_workload.specs.Proving.Keeping.{IsOfBackend, Keeps};
+ghost use Rattle.cj_workload.specs.Proving.Keeping.{IsOfBackend, KeepsSolo};
 ghost use Rattle.cj_workload.specs.Workloads as workload;
-ghost use Rattle.cj_workload.specs.Workloads.{Arms, CatchesUp, Makes, MakesMove, Repairs, RepairsEach, TakesDump, TakesEntries};
+ghost use Rattle.cj_workload.specs.Workloads.{Arms, CatchesUp, MakesOwnMove, MakesMove, Repairs, RepairsEach, TakesDump, TakesEntries};
 
 use crate::statements::{letter, table};
 use cj_backend::Backend;
@@ -32,8 +32,8 @@ fn tells_want(moved: &Moved) -> bool
 fn make<B: Backend, S: Store>(solo: &mut Solo<B, S>, m: Move) -> Result<Made, NoMemory>
     requires met { IsMet solo.old.world.core m }
     requires kind { IsOfBackend m }
-    ensures made { IfOk result (λ made. Makes B.tells B.can_be_armed solo.old m (given_of made) solo.new) }
-    ensures keeps { IfOk result (λ made. Keeps 0 (keeping.enabled_by (given_of made)) solo.old solo.new) }
+    ensures made { IfOk result (λ made. MakesOwnMove B.tells B.can_be_armed solo.old m (given_of made) solo.new) }
+    ensures keeps { IfOk result (λ made. KeepsSolo 0 (keeping.enabled_by (given_of made)) solo.old solo.new) }
 {
     match solo.step(m) {
         Ok(moved) => {
@@ -63,7 +63,7 @@ fn enabled_by(made: &Made) -> u64
 fn enable<B: Backend, S: Store>(solo: &mut Solo<B, S>, b: u8) -> Result<u64, NoMemory>
     requires { b < solo.old.world.core.placement.backends }
     ensures made { IfOk result (λ _. MakesMove B.tells B.can_be_armed solo.old (Move.Enable b) solo.new) }
-    ensures keeps { IfOk result (λ enabled. Keeps 0 enabled solo.old solo.new) }
+    ensures keeps { IfOk result (λ enabled. KeepsSolo 0 enabled solo.old solo.new) }
     ensures few { IfOk result (λ enabled. enabled ≤ 1) }
 {
     let made = make(solo, Move::Enable { b })?;
@@ -74,7 +74,7 @@ fn enable<B: Backend, S: Store>(solo: &mut Solo<B, S>, b: u8) -> Result<u64, NoM
 pub fn take_dump<B: Backend, S: Store>(solo: &mut Solo<B, S>, b: u8) -> Result<(), NoMemory>
     requires { b < solo.old.world.core.placement.backends }
     ensures made { IfOk result (λ _. TakesDump B.tells B.can_be_armed b solo.old solo.new) }
-    ensures keeps { IfOk result (λ _. (enabled : ℕ) × Keeps 0 enabled solo.old solo.new) }
+    ensures keeps { IfOk result (λ _. (enabled : ℕ) × KeepsSolo 0 enabled solo.old solo.new) }
 {
     make(solo, Move::Disable { b })?;
     let name = letter(b'd');
@@ -87,7 +87,7 @@ pub fn take_dump<B: Backend, S: Store>(solo: &mut Solo<B, S>, b: u8) -> Result<(
 fn take_entry<B: Backend, S: Store>(solo: &mut Solo<B, S>, b: u8) -> Result<(), NoMemory>
     requires { b < solo.old.world.core.placement.backends }
     ensures made { IfOk result (λ _. MakesMove B.tells B.can_be_armed solo.old (Move.Replay b) solo.new) }
-    ensures keeps { IfOk result (λ _. Keeps 0 0 solo.old solo.new) }
+    ensures keeps { IfOk result (λ _. KeepsSolo 0 0 solo.old solo.new) }
 {
     make(solo, Move::Replay { b })?;
     Ok(())
@@ -101,7 +101,7 @@ fn take_entries<B: Backend, S: Store>(
 ) -> Result<(), NoMemory>
     requires { b < solo.old.world.core.placement.backends }
     ensures made { IfOk result (λ _. TakesEntries B.tells B.can_be_armed b count solo.old solo.new) }
-    ensures keeps { IfOk result (λ _. Keeps 0 0 solo.old solo.new) }
+    ensures keeps { IfOk result (λ _. KeepsSolo 0 0 solo.old solo.new) }
 {
     for _ in 0..count {
         take_entry(solo, b)?;
@@ -117,7 +117,7 @@ fn catch_up<B: Backend, S: Store>(
 ) -> Result<u64, NoMemory>
     requires { b < solo.old.world.core.placement.backends }
     ensures made { IfOk result (λ _. CatchesUp B.tells B.can_be_armed b position solo.old solo.new) }
-    ensures keeps { IfOk result (λ enabled. Keeps 0 enabled solo.old solo.new) }
+    ensures keeps { IfOk result (λ enabled. KeepsSolo 0 enabled solo.old solo.new) }
     ensures few { IfOk result (λ enabled. enabled ≤ 1) }
 {
     let behind = solo.world().length().saturating_sub(position);
@@ -129,7 +129,7 @@ fn catch_up<B: Backend, S: Store>(
 fn repair<B: Backend, S: Store>(solo: &mut Solo<B, S>, b: u8) -> Result<u64, NoMemory>
     requires { b < solo.old.world.core.placement.backends }
     ensures made { IfOk result (λ _. Repairs B.tells B.can_be_armed b solo.old solo.new) }
-    ensures keeps { IfOk result (λ enabled. Keeps 0 enabled solo.old solo.new) }
+    ensures keeps { IfOk result (λ enabled. KeepsSolo 0 enabled solo.old solo.new) }
     ensures few { IfOk result (λ enabled. enabled ≤ 1) }
 {
     if solo.world().position(b).is_some() {
@@ -146,7 +146,7 @@ fn repair<B: Backend, S: Store>(solo: &mut Solo<B, S>, b: u8) -> Result<u64, NoM
 /// Does so with each backend.
 pub fn repair_each<B: Backend, S: Store>(solo: &mut Solo<B, S>) -> Result<u64, NoMemory>
     ensures made { IfOk result (λ _. RepairsEach B.tells B.can_be_armed solo.old.world.core.placement.backends solo.old solo.new) }
-    ensures keeps { IfOk result (λ enabled. Keeps 0 enabled solo.old solo.new) }
+    ensures keeps { IfOk result (λ enabled. KeepsSolo 0 enabled solo.old solo.new) }
     ensures few { IfOk result (λ enabled. enabled ≤ 32) }
 {
     let mut enabled = 0;
@@ -182,7 +182,7 @@ fn due(placement: &Placement, i: u64) -> Option<u8>
 /// Arms the backend that is due before statement `i`.
 pub fn arm<B: Backend, S: Store>(solo: &mut Solo<B, S>, i: u64) -> Result<(), NoMemory>
     ensures made { IfOk result (λ _. Arms B.tells B.can_be_armed (workload.due solo.old.world.core.placement i) solo.old solo.new) }
-    ensures keeps { IfOk result (λ _. Keeps 0 0 solo.old solo.new) }
+    ensures keeps { IfOk result (λ _. KeepsSolo 0 0 solo.old solo.new) }
 {
     if let Some(b) = due(solo.world().placement(), i) {
         make(solo, Move::Arm { b })?;

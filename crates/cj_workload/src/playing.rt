@@ -7,7 +7,7 @@ ghost use Rattle.cj_model.specs.Sql.PlainRequests.{request_of};
 ghost use Rattle.cj_model.specs.Sql.WrittenRequests.{IsWritten};
 ghost use Rattle.cj_cluster.specs.History.Histories.{is_free};
 ghost use Rattle.cj_cluster.specs.Moves.Cores.{session_at};
-ghost use Rattle.cj_workload.specs.Proving.Keeping.{IsOutside, Keeps};
+ghost use Rattle.cj_workload.specs.Proving.Keeping.{IsOutside, KeepsSolo};
 ghost use Rattle.cj_workload.specs.Statements.{request_of_statement};
 ghost use Rattle.cj_workload.specs.Summaries.{PlaysWorkload};
 ghost use Rattle.cj_workload.specs.Workloads as workload;
@@ -75,7 +75,7 @@ fn write<B: Backend, S: Store>(solo: &mut Solo<B, S>, user: &Text, act: Act) -> 
     requires written { IsWritten (request_of act) }
     requires kind { IsOutside act }
     ensures turn { IfOk result (λ _. TakesTurn B.tells solo.old (request_of act) solo.new) }
-    ensures keeps { IfOk result (λ _. Keeps 1 0 solo.old solo.new) }
+    ensures keeps { IfOk result (λ _. KeepsSolo 1 0 solo.old solo.new) }
 {
     let written = Desk::<()>::write(solo, &(), user, 0, act);
     if tells_want(&written.reply) {
@@ -94,7 +94,7 @@ fn read<B: Backend, S: Store>(
     requires room { (session_at solo.old.world.core solo.old.session).requests < REQUEST_LIMIT }
     requires written { IsWritten (request.Select select.now) }
     ensures turn { IfOk result (λ _. TakesTurn B.tells solo.old (request.Select select.now) solo.new) }
-    ensures keeps { IfOk result (λ _. Keeps 1 0 solo.old solo.new) }
+    ensures keeps { IfOk result (λ _. KeepsSolo 1 0 solo.old solo.new) }
 {
     let reply = Desk::<()>::read(solo, &(), user, 0, select);
     if tells_want(&reply) {
@@ -113,7 +113,7 @@ fn take_turn<B: Backend, S: Store>(
     requires room { (session_at solo.old.world.core solo.old.session).requests < REQUEST_LIMIT }
     requires written { IsWritten (request_of_statement statement) }
     ensures turn { IfOk result (λ _. TakesTurn B.tells solo.old (request_of_statement statement) solo.new) }
-    ensures keeps { IfOk result (λ _. Keeps 1 0 solo.old solo.new) }
+    ensures keeps { IfOk result (λ _. KeepsSolo 1 0 solo.old solo.new) }
 {
     match statement {
         Statement::Change(change) => write(solo, user, Act::Write(change)),
@@ -132,7 +132,7 @@ fn round<B: Backend, S: Store>(
     requires room { (session_at solo.old.world.core solo.old.session).requests < REQUEST_LIMIT }
     requires written { IsWritten (request_of_statement statement) }
     ensures plays { IfOk result (λ _. PlaysRound B.tells B.can_be_armed i (request_of_statement statement) solo.old solo.new) }
-    ensures keeps { IfOk result (λ enabled. Keeps 1 enabled solo.old solo.new) }
+    ensures keeps { IfOk result (λ enabled. KeepsSolo 1 enabled solo.old solo.new) }
     ensures few { IfOk result (λ enabled. enabled ≤ 32) }
 {
     arm(solo, i)?;
@@ -152,7 +152,7 @@ fn rounds<B: Backend, S: Store>(
     requires few { count < 2 ^ 32 }
     requires room { (session_at solo.old.world.core solo.old.session).requests + count ≤ REQUEST_LIMIT }
     ensures plays { IfOk result (λ _. PlaysRounds B.tells B.can_be_armed seed count solo.old solo.new) }
-    ensures keeps { IfOk result (λ enabled. Keeps count enabled solo.old solo.new) }
+    ensures keeps { IfOk result (λ enabled. KeepsSolo count enabled solo.old solo.new) }
 {
     let mut draw = PcgDraw::new(seed);
     let mut enabled = 0;
@@ -173,7 +173,7 @@ fn begin<B: Backend, S: Store>(
     requires user { user.now ≡ [] }
     requires room { (session_at solo.old.world.core solo.old.session).requests < REQUEST_LIMIT }
     ensures begins { IfOk result (λ _. Begins B.tells B.can_be_armed solo.old solo.new) }
-    ensures keeps { IfOk result (λ _. (enabled : ℕ) × Keeps 1 enabled solo.old solo.new) }
+    ensures keeps { IfOk result (λ _. (enabled : ℕ) × KeepsSolo 1 enabled solo.old solo.new) }
 {
     let create = creation(alloc)?;
     write(solo, user, Act::Create(create))?;

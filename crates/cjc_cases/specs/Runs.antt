@@ -5,7 +5,7 @@ use Rattle.cj_outside.specs.Causes.{CountsFault, next}
 use Rattle.cj_outside.specs.Memory.{State}
 use Rattle.cj_cases.specs.Cases.{CaseState}
 use Rattle.cj_cases.specs.declared.runner.Outcome.{Outcome}
-use Rattle.cj_args.specs.Words.{Asks, Says}
+use Rattle.cj_args.specs.Words.{AsksCommand, Says}
 use Rattle.cj_args.specs.declared.asked.Asked.{Asked}
 use Rattle.cj_args.specs.declared.asked.Command.{Command}
 use Rattle.cj_top.specs.Completeness.{ByStore, CompletesCommand, CountsNoFault}
@@ -47,7 +47,7 @@ pub record KeepsPromises (words : List (List ℕ)) (log : State) (moment : ℤ) 
       (λ c. ComesBy command c (Found true log.bytes) (StopsAt log a z) (AreQuiet a z) (Some moment) (Some a.input.bytes) (Some z.input.bytes) (Some a.output.bytes) (Some z.output.bytes) (Some a.errors.bytes) (Some z.errors.bytes) a.errors.faults z.errors.faults status) status
   pub unread : (command : Command) → Says words command → ReadsNoInput command → z.input ≡ a.input
   pub text : AsksForText words → WritesText (Some a.output.bytes) (Some z.output.bytes) status × (z.configuration ≡ a.configuration) × (z.input ≡ a.input) × (z.errors ≡ a.errors)
-  pub other : ((asked : Asked) → Asks words asked → ⊥) → (status ≡ 2) × (z.configuration ≡ a.configuration) × (z.input ≡ a.input) × (z.output ≡ a.output) × (z.errors ≡ a.errors)
+  pub other : ((asked : Asked) → AsksCommand words asked → ⊥) → (status ≡ 2) × (z.configuration ≡ a.configuration) × (z.input ≡ a.input) × (z.output ≡ a.output) × (z.errors ≡ a.errors)
   pub quiet : status ≢ 3 → status ≢ 8 → status ≢ 10 → z.errors ≡ a.errors
   pub stores : (status ≡ 7) × (z.configuration.faults ≡ next a.configuration.faults) ⊎ (status ≡ 7) × HasFailed (λ s. s.faults) log × (z.configuration.faults ≡ a.configuration.faults) ⊎ (status ≢ 7) × (z.configuration.faults ≡ a.configuration.faults)
   pub input : CountsFault (status ≡ 5) a.input.faults z.input.faults

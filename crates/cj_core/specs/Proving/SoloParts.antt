@@ -28,7 +28,7 @@ use Rattle.cj_model.specs.Cluster.Accounts.{login_of}
 use Rattle.cj_model.specs.Cluster.Masks.{in_mask}
 use Rattle.cj_state.specs.Asking.{asks_of, asks_with}
 use Rattle.cj_state.specs.CalledLogins.{logins_of, CallsUnder, MayCallUnder}
-use Rattle.cj_state.specs.Worlds.{WorldState, accounts_of, with_cache, CacheFollowsLog, IsSameButLog}
+use Rattle.cj_state.specs.Worlds.{WorldState, accounts_of, with_cache, CacheFollowsLog, IsSameWorldButLog}
 use Rattle.cj_state.specs.Faults.{faults_of, faults_after}
 use Rattle.cj_state.specs.Effects.{with_core, AnswersOpen, SchedulesAs}
 use Rattle.cj_moves.specs.Counting.{log_faults_after}
@@ -50,13 +50,13 @@ SchedulesOrRefuses c e (Err r) =
 
 -- The entry of session s was scheduled, and stands in the log.
 pub record EntryScheduled (s : ℕ) (e : Entry) (old new : WorldState) : Type 0 where
-  pub after : IsSameButLog (with_cache (with_core old (scheduled_as old.core s e)) new.cache) new
+  pub after : IsSameWorldButLog (with_cache (with_core old (scheduled_as old.core s e)) new.cache) new
   pub cache : CacheFollowsLog old new
   pub log_faults : new.recovery_log.faults ≡ old.recovery_log.faults
 
 -- The entry was refused, and its request is not counted yet: where the log's store failed, the history has an event of it.
 pub record EntryRefused (e : Entry) (refusal : Refusal) (old new : WorldState) : Type 0 where
-  pub after : IsSameButLog (with_core old (if refusal.code == LOG_FAULT then happened old.core (LogFailed e.session e.seq) else old.core)) new
+  pub after : IsSameWorldButLog (with_core old (if refusal.code == LOG_FAULT then happened old.core (LogFailed e.session e.seq) else old.core)) new
   pub log_faults : new.recovery_log.faults ≡ log_faults_after old.recovery_log.faults (refusal.code == LOG_FAULT)
 
 -- the user of the open entry

@@ -18,11 +18,11 @@ use Rattle.cj_log.specs.Items.{backend_byte, item_bytes, IsItem, IsNoItem}
 -- ---- fields
 
 -- UTF-8 without byte 0, no longer than the name of a user
-abbrev pub is_user : List ℕ → Bool
-is_user text = nat_le (length text) USER_LIMIT && is_text text
+abbrev pub is_user_name : List ℕ → Bool
+is_user_name text = nat_le (length text) USER_LIMIT && is_text text
 
 abbrev pub user : Format (List ℕ)
-user = such_that is_user string16
+user = such_that is_user_name string16
 
 abbrev pub text : Format (List ℕ)
 text = such_that is_text string64

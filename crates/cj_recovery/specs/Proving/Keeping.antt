@@ -43,7 +43,7 @@ tx_behind number t act.Commit = 0
 tx_behind number t act.Abort = 0
 
 -- each session's next request, and its open transaction; the administrator has no requests
-pub record KeepsSessions (entries : List Entry) (sessions : BTreeMap ℕ SessionSoFar) : Type 0 where
+pub record KeepsRequests (entries : List Entry) (sessions : BTreeMap ℕ SessionSoFar) : Type 0 where
   pub next : (s : ℕ) → 0 < s → IsNextSeq entries s (session_in sessions s).next
   pub tx : (s : ℕ) → (session_in sessions s).tx ≡ tx_of entries s
 
@@ -54,7 +54,7 @@ KeepsMarkers h names = (name : List ℕ) → contains marker_cmp names (named na
 -- all that is kept
 pub record Keeps (h : List Event) (places : List ℕ) (sessions : BTreeMap ℕ SessionSoFar) (names : BTreeSet MarkerName) : Type 0 where
   pub placed : KeepsPlaces h places
-  pub followed : KeepsSessions (log h) sessions
+  pub followed : KeepsRequests (log h) sessions
   pub marked : KeepsMarkers h names
 
 -- the entry begins the open transaction of its session that the other entry ends for its user

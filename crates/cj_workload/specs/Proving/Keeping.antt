@@ -32,7 +32,7 @@ IsOutside (act.Create c) = Unit {0}
 IsOutside _ = ⊥
 
 -- From a to z the session made so many requests, and backends were enabled so often.
-pub record Keeps (requests enabled : ℕ) (a z : SoloState) : Type 0 where
+pub record KeepsSolo (requests enabled : ℕ) (a z : SoloState) : Type 0 where
   pub placement : z.world.core.placement ≡ a.world.core.placement
   pub session : z.session ≡ a.session
   pub requests : (session_at z.world.core z.session).requests ≡ (session_at a.world.core a.session).requests + requests

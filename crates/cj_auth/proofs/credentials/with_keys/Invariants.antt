@@ -1,5 +1,5 @@
 use Rattle.std.proofs.Common.{◌≡◌, ◌++◌, true}
-use Rattle.cj_auth.proofs.Common.{Account, All, Credential, HasKey, IsUserName, accounts_of, is_digest}
+use Rattle.cj_auth.proofs.Common.{Account, All, Credential, HasKey, IsUserName, kept_accounts, is_digest}
 use Rattle.cj_model.specs.Cluster.Accounts.{HasShortUsers}
 use Rattle.cj_auth.proofs.credentials.with_keys.Given as goal
 
@@ -11,5 +11,5 @@ invariant-loop-account l = record {
   short : HasShortUsers l.account-iterator.rest.items;
   keys : All HasKey l.made;
   users : All (λ (credential : Credential). IsUserName credential.account.user) l.made;
-  all : accounts_of l.made ++ l.account-iterator.rest.items ≡ l.fn.accounts;
+  all : kept_accounts l.made ++ l.account-iterator.rest.items ≡ l.fn.accounts;
 }

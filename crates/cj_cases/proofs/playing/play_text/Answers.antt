@@ -3,7 +3,7 @@ use Rattle.std.specs.Option.{option_copied}
 use Rattle.cj_cases.specs.Cases.{CaseState}
 use Rattle.cj_outside.specs.declared.sink.OutError.{OutError}
 use Rattle.cj_outside.specs.declared.sink.OutError.TheVariants.{Failed, NoMemory}
-use Rattle.cj_cases.specs.Plays.{refused_line, PlaysOrStops, Stops, WritesLine}
+use Rattle.cj_cases.specs.Plays.{refused_line, PlaysOrStops, StopsPlay, WritesLine}
 use Rattle.cj_cases.proofs.LineByLine.{played_some, played_to, playing_more}
 use Rattle.cj_cases.proofs.playing.play_text.Goals as goal
 
@@ -56,7 +56,7 @@ returns-in-Ok-false-clause-ends g c =
 pub returns-in-Err-Failed-clause-ends : goal.returns-in-Err-Failed-clause-ends
 returns-in-Err-Failed-clause-ends g c =
     let held = g.O.Sink.held in
-    let stops = subst (λ (e : OutError). Stops g.R.Runner.gives c.loop-rest.case c.cut.result.0.now
+    let stops = subst (λ (e : OutError). StopsPlay g.R.Runner.gives c.loop-rest.case c.cut.result.0.now
     (held c.loop-rest.output) (held c.play_line.new.output) e) c.in-Err-Failed.field-0-is
     c.in-Err-Failed.ensures.plays in
     inr (inr (inl (
@@ -70,7 +70,7 @@ returns-in-Err-Failed-clause-ends g c =
 pub returns-in-Err-NoMemory-clause-ends : goal.returns-in-Err-NoMemory-clause-ends
 returns-in-Err-NoMemory-clause-ends g c =
     let held = g.O.Sink.held in
-    let stops = subst (λ (e : OutError). Stops g.R.Runner.gives c.loop-rest.case c.cut.result.0.now
+    let stops = subst (λ (e : OutError). StopsPlay g.R.Runner.gives c.loop-rest.case c.cut.result.0.now
     (held c.loop-rest.output) (held c.play_line.new.output) e) c.in-Err-NoMemory.field-0-is
     c.in-Err-NoMemory.ensures.plays in
     inr (inr (inr (

@@ -1,5 +1,5 @@
 use Rattle.std.proofs.Common.{true, false, Err, inl, inr, ap, sym, ◌∙◌, subst}
-use Rattle.cj_core.proofs.Cited.{AskError, Asks, Core, LogsInToAsk, Refusal, Refused, WorldState, accounts_of, ask, asked_core, called_one, database_of, failed_asked, faults_after, faults_of, log, login_of, logins_of, not_behind, not_out, one_answered, one_failed, query_answered, query_failed, query_starved, query_unnoted, right_at_end}
+use Rattle.cj_core.proofs.Cited.{AskError, Asks, Core, AskedUnderLogin, Refusal, Refused, WorldState, accounts_of, ask, asked_core, called_one, database_of, failed_asked, faults_after, faults_of, log, login_of, logins_of, not_behind, not_out, one_answered, one_failed, query_answered, query_failed, query_starved, query_unnoted, right_at_end}
 use Rattle.cj_core.proofs.solo_read.attempt.Goals as goal
 
 pub unreachable-requires : goal.unreachable-requires
@@ -43,7 +43,7 @@ returns-in-Err-Failed-clause-came g c =
     let asks = subst (λ (e : AskError). Asks g.B.Backend.tells c.args.state.now.core c.args.s c.args.b c.args.tx c.args.select.now (Err e)) c.in-Err-Failed.field-0-is asked.asks in
     let core = asked.core ∙ ap (λ (e : AskError). asked_core c.args.state.now.core c.args.s c.args.b (Err e)) c.in-Err-Failed.field-0-is in
     let counts = asked.counts ∙ ap (λ (e : AskError). faults_after (faults_of c.args.state.now.cells) (failed_asked c.args.b (Err e))) c.in-Err-Failed.field-0-is in
-    let logins = subst (λ (e : AskError). LogsInToAsk c.args.b (login_of (accounts_of c.args.state.now) c.args.user.now c.args.b) (Err e) (logins_of c.args.state.now.cells) (logins_of c.ask.new.self.cells)) c.in-Err-Failed.field-0-is asked.logins in (
+    let logins = subst (λ (e : AskError). AskedUnderLogin c.args.b (login_of (accounts_of c.args.state.now) c.args.user.now c.args.b) (Err e) (logins_of c.args.state.now.cells) (logins_of c.ask.new.self.cells)) c.in-Err-Failed.field-0-is asked.logins in (
       query_failed g.B.Backend.tells c.args.s c.args.b c.args.tx c.args.select.now c.args.state.now c.legal.ensures.world.sound c.requires.stands c.requires.serves c.ask.new.self asks core c.legal-in-Err-Failed.ensures.world.sound counts,
       one_failed c.args.user.now c.args.b c.args.state.now c.ask.new.self asked.answered logins asked.others asked.balance,
     )
@@ -54,7 +54,7 @@ returns-in-Err-Unnoted-clause-came g c =
     let asks = subst (λ (e : AskError). Asks g.B.Backend.tells c.args.state.now.core c.args.s c.args.b c.args.tx c.args.select.now (Err e)) c.in-Err-Unnoted.field-0-is asked.asks in
     let core = asked.core ∙ ap (λ (e : AskError). asked_core c.args.state.now.core c.args.s c.args.b (Err e)) c.in-Err-Unnoted.field-0-is in
     let counts = asked.counts ∙ ap (λ (e : AskError). faults_after (faults_of c.args.state.now.cells) (failed_asked c.args.b (Err e))) c.in-Err-Unnoted.field-0-is in
-    let logins = subst (λ (e : AskError). LogsInToAsk c.args.b (login_of (accounts_of c.args.state.now) c.args.user.now c.args.b) (Err e) (logins_of c.args.state.now.cells) (logins_of c.ask.new.self.cells)) c.in-Err-Unnoted.field-0-is asked.logins in
+    let logins = subst (λ (e : AskError). AskedUnderLogin c.args.b (login_of (accounts_of c.args.state.now) c.args.user.now c.args.b) (Err e) (logins_of c.args.state.now.cells) (logins_of c.ask.new.self.cells)) c.in-Err-Unnoted.field-0-is asked.logins in
     let after = c.refuse-in-Err-Unnoted.ensures.counted in
     let one = one_failed c.args.user.now c.args.b c.args.state.now c.ask.new.self asked.answered logins asked.others asked.balance in
     inr (inl (

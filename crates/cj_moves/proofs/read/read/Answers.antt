@@ -1,5 +1,5 @@
 use Rattle.std.proofs.Common.{◌≡◌, ℕ, Bool, true, false, cond, None, Some, Ok, Err, refl, ap, sym, ◌∙◌, subst, arith}
-use Rattle.cj_moves.proofs.Cited.{AskError, Asks, Core, HasNoOtherRead, HaveFailed, LogsInToAsk, Moved, ReadFailed, RefusesOrStays, WorldState, answered, answers_blame_none, answers_log_in, armings_of, asked_core, asks_same, both_ways, can_read, failed, failed_asked, failures_blame, failures_log_in, faults_after, faults_of, is_behind, is_entry_of, is_out, is_waiting, login_to_ask, logins_of, not_serving, open_above, open_tx, opened-same, read_number, session_at, tells_fault, tried_more, unnoted}
+use Rattle.cj_moves.proofs.Cited.{AskError, Asks, Core, HasNoOtherRead, HaveFailed, AskedUnderLogin, Moved, ReadFailed, RefusesOrStays, WorldState, answered, answers_blame_none, answers_log_in, armings_of, asked_core, asks_same, both_ways, can_read, failed, failed_asked, failures_blame, failures_log_in, faults_after, faults_of, is_behind, is_entry_of, is_out, is_waiting, login_to_ask, logins_of, not_serving, open_above, open_tx, opened-same, read_number, session_at, tells_fault, tried_more, unnoted}
 use Rattle.cj_moves.proofs.read.read.Goals as goal
 
 pub has_bit-requires : goal.has_bit-requires
@@ -137,23 +137,23 @@ returns-in-Ok-clause-logins g c =
 
 pub returns-in-Err-Failed-clause-logins : goal.returns-in-Err-Failed-clause-logins
 returns-in-Err-Failed-clause-logins g c =
-    let logs = subst (λ (e : AskError). LogsInToAsk c.args.b (login_to_ask c.args.state.now c.args.s c.args.b) (Err e) (logins_of c.args.state.now.cells) (logins_of c.ask.new.self.cells)) c.in-Err-Failed.field-0-is c.in-Err-Failed.ensures.logins in
+    let logs = subst (λ (e : AskError). AskedUnderLogin c.args.b (login_to_ask c.args.state.now c.args.s c.args.b) (Err e) (logins_of c.args.state.now.cells) (logins_of c.ask.new.self.cells)) c.in-Err-Failed.field-0-is c.in-Err-Failed.ensures.logins in
     rw c.refuse_or_stay.ensures.cells
     (failures_log_in c.args.b (login_to_ask c.args.state.now c.args.s c.args.b) c.ask.new.self.core c.args.s c.args.select c.tried_with-tried.result c.serving-serving.result c.refuse_or_stay.result c.refuse_or_stay.new.state.core
     (logins_of c.args.state.now.cells) (logins_of c.ask.new.self.cells) c.refuse_or_stay.ensures.moves logs)
 
 pub returns-in-Err-Unnoted-clause-logins : goal.returns-in-Err-Unnoted-clause-logins
 returns-in-Err-Unnoted-clause-logins g c =
-    let logs = subst (λ (e : AskError). LogsInToAsk c.args.b (login_to_ask c.args.state.now c.args.s c.args.b) (Err e) (logins_of c.args.state.now.cells) (logins_of c.ask.new.self.cells)) c.in-Err-Unnoted.field-0-is c.in-Err-Unnoted.ensures.logins in
+    let logs = subst (λ (e : AskError). AskedUnderLogin c.args.b (login_to_ask c.args.state.now c.args.s c.args.b) (Err e) (logins_of c.args.state.now.cells) (logins_of c.ask.new.self.cells)) c.in-Err-Unnoted.field-0-is c.in-Err-Unnoted.ensures.logins in
     let same : logins_of c.refuse_unnoted.new.state.cells ≡ logins_of c.ask.new.self.cells = ap (λ (w : WorldState). logins_of w.cells) c.refuse_unnoted.ensures.ok in
     rw (same, c.refuse_unnoted.ensures.moved) logs
 
 pub returns-in-Err-Out-clause-logins : goal.returns-in-Err-Out-clause-logins
 returns-in-Err-Out-clause-logins g c =
-    let logs = subst (λ (e : AskError). LogsInToAsk c.args.b (login_to_ask c.args.state.now c.args.s c.args.b) (Err e) (logins_of c.args.state.now.cells) (logins_of c.ask.new.self.cells)) c.in-Err-Out.field-0-is c.in-Err-Out.ensures.logins in
+    let logs = subst (λ (e : AskError). AskedUnderLogin c.args.b (login_to_ask c.args.state.now c.args.s c.args.b) (Err e) (logins_of c.args.state.now.cells) (logins_of c.ask.new.self.cells)) c.in-Err-Out.field-0-is c.in-Err-Out.ensures.logins in
     ap (λ (w : WorldState). logins_of w.cells) c.wait.ensures ∙ logs
 
 pub returns-in-Err-Behind-clause-logins : goal.returns-in-Err-Behind-clause-logins
 returns-in-Err-Behind-clause-logins g c =
-    let logs = subst (λ (e : AskError). LogsInToAsk c.args.b (login_to_ask c.args.state.now c.args.s c.args.b) (Err e) (logins_of c.args.state.now.cells) (logins_of c.ask.new.self.cells)) c.in-Err-Behind.field-0-is c.in-Err-Behind.ensures.logins in
+    let logs = subst (λ (e : AskError). AskedUnderLogin c.args.b (login_to_ask c.args.state.now c.args.s c.args.b) (Err e) (logins_of c.args.state.now.cells) (logins_of c.ask.new.self.cells)) c.in-Err-Behind.field-0-is c.in-Err-Behind.ensures.logins in
     ap (λ (w : WorldState). logins_of w.cells) c.wait-in-Err-Behind.ensures ∙ logs

@@ -1,5 +1,5 @@
 use Rattle.std.proofs.Common.{◌≡◌, List, ℕ, Bool, true, false, cond, None, Some, refl, sym, ◌∙◌, subst}
-use Rattle.cj_script.proofs.Common.{Finds, is_name, NamesDump}
+use Rattle.cj_script.proofs.Common.{FindsValue, is_name, NamesBackendAndDump}
 use Rattle.cj_script.proofs.Requests.{no_dump, no_dump_name, one_dump}
 use Rattle.cj_script.proofs.arguments.dump_named.Goals as goal
 
@@ -18,7 +18,7 @@ returns-in_default c = no_dump c.args.names.now c.args.rest.now (rw c.in_default
 pub returns-in-Some-of : goal.returns-in-Some-of
 returns-in-Some-of c =
     let is = name_found c.in-Some.word.now c.in-Some-of.name (is_name c.in-Some.word.now) (sym c.in-Some-of.is ∙ c.of.ensures) in
-    subst (λ (z : List ℕ). Finds (NamesDump c.args.names.now c.args.rest.now) (Some (c.in-Some.b, z))) (sym is.1)
+    subst (λ (z : List ℕ). FindsValue (NamesBackendAndDump c.args.names.now c.args.rest.now) (Some (c.in-Some.b, z))) (sym is.1)
     (one_dump c.args.names.now c.args.rest.now c.in-Some.b c.in-Some.word.now c.in-Some.ensures is.0)
 
 pub returns-in-None : goal.returns-in-None

@@ -1,5 +1,5 @@
 use Rattle.std.proofs.Common.{◌≡◌, ℕ, List, Result, inl, sym, ap, subst, ◌∙◌}
-use Rattle.cj_script.proofs.Common.{DoesLine, Finds, moved_lines, MoveLine, PlaysOrEnds, ScriptEnd, Setup}
+use Rattle.cj_script.proofs.Common.{DoesLine, FindsValue, moved_lines, MoveLine, PlaysOrEnds, ScriptEnd, Setup}
 use Rattle.cj_script.proofs.Auditing.{done_or_ends}
 use Rattle.cj_script.proofs.play.play_line.Goals as goal
 
@@ -13,7 +13,7 @@ returns-clause-plays g c =
     let z = c.make.new.self in
     let first : c.names.result.now ≡ w.setup.names = c.names.ensures ∙ c.placement.ensures.names in
     let same : c.names-2.result.now ≡ w.setup.names = c.names-2.ensures ∙ (c.placement-2.ensures.names ∙ ap (λ (s : Setup). s.names) c.in-Ok.ensures.setup) in
-    let found = subst (Finds (MoveLine c.names.result.now c.args.line.now)) c.in-Ok-Some.field-0-is c.in-Ok-Some.ensures in
+    let found = subst (FindsValue (MoveLine c.names.result.now c.args.line.now)) c.in-Ok-Some.field-0-is c.in-Ok-Some.ensures in
     let does : DoesLine tells can w.setup.names w c.args.line.now (moved_lines c.names-2.result.now c.in-Ok.made) z =
     inl (record {
       move = c.in-Ok-Some.m;

@@ -1,5 +1,5 @@
 use Rattle.std.proofs.Common.{◌≡◌, ◌<◌, ◌+◌, ◌-◌, List, length, get_or, slice_get, Option, None, Some, Result, Ok, Err, ℕ, Bor, ⊎_elim, ◌≤◌, refl, sym, ap, ◌∙◌, subst, arith}
-use Rattle.cj_state.proofs.Cited.{CatchesUp, Caught, CellError, CellState, EVENT_LIMIT, Entry, IsNextEntry, IsPrefix, SeatView, SeatedCell, after_fault, all_at, at_position, board_of, did_of, fault_tokens_of, length-map, log, log-prefix, max_word, one_token, option_copied, position_or_zero, prefix_get, seen_as, slice_get_cases, states_of, states_set, there_set, took, view_after_entry}
+use Rattle.cj_state.proofs.Cited.{CatchesUp, Caught, CellError, CellState, EVENT_LIMIT, Entry, IsEntryAfter, IsPrefix, SeatView, SeatedCell, after_fault, all_at, at_position, board_of, did_of, fault_tokens_of, length-map, log, log-prefix, max_word, one_token, option_copied, position_or_zero, prefix_get, seen_as, slice_get_cases, states_of, states_set, there_set, took, view_after_entry}
 use Rattle.cj_cluster.specs.declared.moves.Did.TheVariants as did
 use Rattle.cj_replica.specs.declared.replica.Caught.TheVariants as caught
 use Rattle.cj_replica.specs.declared.replica.CellError.TheVariants as errors
@@ -51,7 +51,7 @@ catch_up-requires-clause-next g c =
     let can = c.requires.can in
     let here = c.place-next.ensures ∙ ap position_or_zero (c.position.ensures ∙ stands_as c.args.cells.now.items c.args.b can.p c.index.result.now can.within c.index.ensures can.stands) in
     let stands = stands_as c.args.cells.now.items c.args.b can.p c.index_mut.result.now can.within c.index_mut.ensures.value can.stands in
-    subst (λ q. IsNextEntry q (c.place-next.result + 1)) (sym stands) (ap (λ q. q + 1) here)
+    subst (λ q. IsEntryAfter q (c.place-next.result + 1)) (sym stands) (ap (λ q. q + 1) here)
 
 pub catch_up-requires-clause-entry : goal.catch_up-requires-clause-entry
 catch_up-requires-clause-entry g c =

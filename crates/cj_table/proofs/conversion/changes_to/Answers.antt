@@ -1,5 +1,5 @@
 use Rattle.std.proofs.Common.{◌≡◌, ◌∙◌, ◌++◌, ◌∷◌, List, [], map, sym, ap, subst}
-use Rattle.cj_table.proofs.Cited.{Rises, Settles, Turned, Value, append-nil, append_assoc, by_key, deref, map-append, puts, turned_all, turned_more}
+use Rattle.cj_table.proofs.Cited.{Rises, SettlesRow, Turned, Value, append-nil, append_assoc, by_key, deref, map-append, puts, turned_all, turned_more}
 use Rattle.cj_table.proofs.conversion.changes_to.Goals as goal
 
 pub loop-row-preserved : goal.loop-row-preserved
@@ -11,7 +11,7 @@ loop-row-preserved c =
     let i = c.loop-row.invariant in
     let more : map deref (c.loop-row.yielded ++ c.in-Some.row ∷ []) ≡ before ++ row ∷ [] = map-append deref c.loop-row.yielded (c.in-Some.row ∷ []) in
     let all : before ++ row ∷ rest ≡ c.args.old = ap (λ (l : List (List Value)). before ++ l) (sym c.in-Some.ensures.steps) ∙ i.all in
-    let settles = subst (λ (v : Value). Settles v row c.loop-row.changes c.settle.new.self) c.in_ok-key.ensures c.in_ok-settle.ensures.settles in
+    let settles = subst (λ (v : Value). SettlesRow v row c.loop-row.changes c.settle.new.self) c.in_ok-key.ensures c.in_ok-settle.ensures.settles in
     record {
       rises = c.in_ok-settle.ensures.rises;
       turned = subst (λ (l : List (List Value)). Turned k l (puts k c.args.new) c.settle.new.self) (sym more)

@@ -1,5 +1,5 @@
 use Rattle.std.proofs.Common.{◌≡◌, ◌+◌, ℕ, false, true, List, [], ◌∷◌, ◌++◌, length, Ok, Err, ◌∙◌, sym, ap, subst, inl, inr}
-use Rattle.cj_records.proofs.Common.{AgreesWithStore, Appends, Finds, IsBeforeOrAfter, Laid, LeavesOnly, OutError, Place, RecordList, Refuses, bodies_at, body_behind, overwritten}
+use Rattle.cj_records.proofs.Common.{AgreesWithStore, AppendsRecord, Finds, IsBeforeOrAfter, Laid, LeavesOnly, OutError, Place, RecordList, Refuses, bodies_at, body_behind, overwritten}
 use Rattle.cj_records.proofs.Reach.{bodies_same}
 use Rattle.cj_records.proofs.Appended.{laid_front, keeps_front, kept_front, kept_at, shut_refused, write_refused, refused_list, refuses, Written, written, kept_more}
 use Rattle.cj_records.proofs.Begun.{laid_finds}
@@ -25,7 +25,7 @@ returns-in_err-shut_gate-clause-list g c = λ t.
     let refused = shut_refused r.end (held r.store) (held c.shut_gate.new.store) r.torn c.shut_gate.new.torn c.in_err-shut_gate.field-0.0 (c.in_err-shut_gate.ensures.bytes t) in
     let same : bodies_at (held c.shut_gate.new.store) c.reserve.new.self.items ≡ bodies_at (held r.store) r.places.items = ap (bodies_at (held c.shut_gate.new.store)) c.reserve.ensures.items ∙ bodies_same r.end r.places.items (held r.store) (held c.shut_gate.new.store) c.self.invariant.0.within refused.0.front in
     let new : RecordList g.row.S.Denot = kept_at held c.shut_gate.new.store r.magic c.reserve.new.self.items r.end c.shut_gate.new.torn in
-    subst (λ (v : RecordList g.row.S.Denot). Appends v c.args.body.now new c.from_residual-in_err-shut_gate.result) c.self.view_is
+    subst (λ (v : RecordList g.row.S.Denot). AppendsRecord v c.args.body.now new c.from_residual-in_err-shut_gate.result) c.self.view_is
     (refused_list (kept_at held r.store r.magic r.places.items r.end r.torn) new c.args.body.now c.from_residual-in_err-shut_gate.result c.in_err-shut_gate.field-0.0 c.from_residual-in_err-shut_gate.ensures.1 same (λ e up. refused.2))
 
 -- what stands once the gate is closed
@@ -71,7 +71,7 @@ returns-in_err-write_record-clause-list g c = λ t.
     let same : bodies_at (held c.write_record.new.store) c.reserve.new.self.items ≡ bodies_at (held r.store) r.places.items =
     ap (bodies_at (held c.write_record.new.store)) c.reserve.ensures.items ∙ bodies_same r.end r.places.items (held r.store) (held c.write_record.new.store) c.self.invariant.0.within (refused.0.front ∙ shut.0.front) in
     let new : RecordList g.row.S.Denot = kept_at held c.write_record.new.store r.magic c.reserve.new.self.items r.end c.write_record.new.torn in
-    subst (λ (v : RecordList g.row.S.Denot). Appends v c.args.body.now new c.from_residual-in_err-write_record.result) c.self.view_is
+    subst (λ (v : RecordList g.row.S.Denot). AppendsRecord v c.args.body.now new c.from_residual-in_err-write_record.result) c.self.view_is
     (refused_list (kept_at held r.store r.magic r.places.items r.end r.torn) new c.args.body.now c.from_residual-in_err-write_record.result c.in_err-write_record.field-0.0 c.from_residual-in_err-write_record.ensures.1 same
     (λ e up. let down = c.in_err-write_record.ensures.memory (ap (λ (x : OutError). Err x) e) in absurd (cc (down, up))))
 

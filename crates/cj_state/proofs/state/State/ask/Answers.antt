@@ -1,5 +1,5 @@
 use Rattle.std.proofs.Common.{true, ℕ, false, List, Ok, Err, Some, ap, sym, ◌∙◌, subst, refl}
-use Rattle.cj_state.proofs.Cited.{BookState, CellReadError, KeptFresh, LogsInToAsk, Notes, ReadFailed, WorldState, accounts_of, answers, asked_for, at_book, board_id, changed_armings, changed_asks, changed_faults, changed_others, changed_under, dumps_event, errs, faults_after, faults_of, fresh_event, has_cell, is_asked, kept_asked, kept_read_failed, length-map, login_of, logins_of, noted_core, noted_fault, noted_logins, noted_want, notes_cases, option_copied, pass_board, placement_of, ready_heard, ready_noted, same_core, spent_times, states_of, wanted, world_of, world_stays}
+use Rattle.cj_state.proofs.Cited.{BookState, CellReadError, KeptFresh, AskedUnderLogin, Notes, ReadFailed, WorldState, accounts_of, answers, asked_for, at_book, board_id, changed_armings, changed_asks, changed_faults, changed_others, changed_under, dumps_event, errs, faults_after, faults_of, fresh_event, has_cell, is_asked, kept_asked, kept_read_failed, length-map, login_of, logins_of, noted_core, noted_fault, noted_logins, noted_want, notes_cases, option_copied, pass_board, placement_of, ready_heard, ready_noted, same_core, spent_times, states_of, wanted, world_of, world_stays}
 use Rattle.cj_state.proofs.state.State.ask.Goals as goal
 
 pub invariant_of-self : goal.invariant_of-self
@@ -101,7 +101,7 @@ pub returns-in-Err-clause-logins : goal.returns-in-Err-clause-logins
 returns-in-Err-clause-logins g c =
     let ch = c.in-Err.ensures.read in
     let given = c.mapped-login.ensures ∙ (ap (λ (user : List ℕ). login_of c.self.inside.accounts.accounts user c.args.b) c.asking_user.ensures ∙ ap (λ (z : WorldState). login_of (accounts_of z) (asked_for z.core.sessions c.args.s (option_copied c.args.user)) c.args.b) c.self.view_is) in
-    subst (λ (login : List ℕ). LogsInToAsk c.args.b login (Err c.noted.result) (logins_of c.args.self.now.cells) (logins_of (states_of c.read_at.new.cells.items))) given
+    subst (λ (login : List ℕ). AskedUnderLogin c.args.b login (Err c.noted.result) (logins_of c.args.self.now.cells) (logins_of (states_of c.read_at.new.cells.items))) given
     (noted_logins c.self.invariant.0 c.self.view_is c.requires.within ch c.read_at.new.book.state c.noted.new.book.state c.args.s c.read_number-number.result c.in-Err.error c.noted.result c.mapped-login.result.now c.noted.ensures.notes ch.how.login)
 
 pub read_at-requires-clause-within : goal.read_at-requires-clause-within
