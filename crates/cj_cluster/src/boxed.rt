@@ -1,4 +1,4 @@
-//! An entry in memory of its own.
+//! A log entry in a box.
 
 ghost use Rattle.std.specs.Prelude.{◌≡◌, IfOk};
 
@@ -6,7 +6,7 @@ use cj_model::{Act, Duplicate, Entry, NoMemory, Text};
 use std::alloc::Global;
 use std::marker::Model;
 
-/// An entry in memory of its own, so that an event of another kind takes little. Contracts see the entry.
+/// A log entry in a box, so that events of other kinds are small. Contracts see the entry.
 #[derive(Drop)]
 pub struct BoxedEntry {
     inner: Box<Entry>,
@@ -25,6 +25,7 @@ impl Model for BoxedEntry {
 }
 
 impl BoxedEntry {
+    /// Puts the entry into a box. If memory runs out, the entry is lost.
     pub fn new(alloc: Global, entry: Entry) -> Result<BoxedEntry, NoMemory>
         ensures { IfOk result (λ boxed. boxed ≡ entry) }
     {
@@ -33,7 +34,7 @@ impl BoxedEntry {
         })
     }
 
-    /// The memory for an entry, with one in it that stands for none.
+    /// Allocates the box for an entry, with a placeholder in it.
     pub fn with_room(alloc: Global) -> Result<BoxedEntry, NoMemory> {
         let Some(user) = Text::of(Vec::new(alloc)) else {
             return Err(NoMemory);
@@ -50,7 +51,7 @@ impl BoxedEntry {
         )
     }
 
-    /// Puts this entry in its memory, in place of the one there. It takes no memory.
+    /// Puts the entry into this box, in place of the one there; allocates nothing.
     pub fn filled(self, entry: Entry) -> BoxedEntry
         ensures { result ≡ entry }
     {
@@ -59,6 +60,7 @@ impl BoxedEntry {
         BoxedEntry { inner }
     }
 
+    /// The entry in the box.
     pub fn entry(&self) -> &Entry
         ensures { result.now ≡ self.now }
     {

@@ -1,4 +1,4 @@
-//! The moves of the core, and what each gives.
+//! The moves of a cluster, and what each gives.
 
 ghost use Rattle.std.specs.Prelude.{◌≡◌};
 ghost use Rattle.cj_cluster.specs.Script.Lines.{reason_number};
@@ -9,7 +9,7 @@ use cj_model::{
 use std::alloc::Global;
 use thiserror::Error;
 
-/// One move of the core. Backends go by their number, from 0.
+/// One move of the cluster. Backends go by their number, from 0.
 #[derive(Drop)]
 pub enum Move {
     /// Opens a session of the user, a text of at most 64 bytes.
@@ -19,23 +19,23 @@ pub enum Move {
     Schedule { session: u64, request: Request },
     /// Schedules the end of an orphan: a transaction that is open while its session isn't.
     Abort { tx: u64 },
-    /// The backend takes the open entry.
+    /// The backend applies the open entry, or skips it if it has no part in it.
     Apply { b: u8 },
     /// Ends the open entry and answers its session.
     End,
-    /// Asks the backend.
+    /// Asks the backend a session's read.
     Read { session: u64, b: u8, select: Select },
-    /// The backend's next call fails, where it can.
+    /// Makes the backend's next call fail, if its kind can.
     Arm { b: u8 },
     Disable { b: u8 },
-    /// A backend that isn't enabled takes the next entry of the log.
+    /// A backend that isn't enabled applies the next entry of the log that it missed, or skips it.
     Replay { b: u8 },
     Enable { b: u8 },
-    /// Marks a checkpoint in the log, of a name that no marker and no dump has.
+    /// Marks a checkpoint in the log, with a name that no marker and no dump has.
     Mark { name: Name },
     /// Takes a dump of what a backend that isn't enabled holds, under a name that no marker and no dump has.
     Dump { b: u8, name: Name },
-    /// A backend that is out holds from now on what a dump has of its tables.
+    /// Loads a dump into a backend that is out: from then on it holds what the dump has of its tables.
     Load { b: u8, name: Name },
 }
 
@@ -45,10 +45,10 @@ pub type Moves = ListOf<Move>;
 #[derive(Clone, Copy, PartialEq, Eq)]
 pub enum Did {
     Done(Outcome),
-    /// The entry concerns no table that it hosts.
+    /// The backend has no part in the entry.
     Skipped,
     Failed,
-    /// It wanted memory.
+    /// The backend ran out of memory.
     Starved,
 }
 
@@ -64,35 +64,35 @@ pub enum Moved {
     Applied { b: u8, did: Did },
     Replied { session: u64, reply: Reply },
     Rows(Answer),
-    /// The backend stands at this position, below what the session has seen.
+    /// The backend's position is this one, below what the session has seen.
     Behind(u64),
     /// The backend is out: it needs a dump.
     Out,
     Failed,
-    /// The backend, or what is to be loaded into it, wanted memory.
+    /// The backend ran out of memory, or the dump that is loaded into it did.
     Starved,
     Armed,
     Disabled,
     Enabled,
-    /// The marker stands behind so many entries.
+    /// The marker comes after so many entries.
     Marked(u64),
-    /// The backend that was dumped has taken so many entries.
+    /// The position of the dumped backend: how many entries it has applied or skipped.
     Dumped(u64),
-    /// The backend has from now on taken so many entries.
+    /// The position of the backend from now on: how many entries it has applied or skipped.
     Loaded(u64),
     Replayed { number: u64, did: Did },
 }
 
-/// What keeps a move from being made now.
+/// The reason for which a move can't be made now.
 #[derive(Clone, Copy, Debug, PartialEq, Eq)]
 pub enum Reason {
     EntryOpen,
     NoEntryOpen,
     NotEnabled,
     Enabled,
-    /// The backend has taken the whole log.
+    /// The backend has applied or skipped the whole log.
     AtEnd,
-    /// A backend has not taken the whole log.
+    /// A backend has not applied or skipped the whole log.
     Behind,
     /// The backend needs a dump.
     Out,
@@ -114,7 +114,7 @@ pub enum Reason {
 }
 
 impl Reason {
-    /// Its number in the text of a script (docs/SCRIPT.md).
+    /// The number of the reason in the output of a script (docs/SCRIPT.md).
     pub fn number(self) -> u16
         ensures { result ≡ reason_number self }
     {
@@ -154,7 +154,7 @@ pub enum MoveError {
     NoMemory,
 }
 
-/// What one move of a list came to.
+/// The result of one move of a list.
 #[derive(Drop)]
 pub enum Made {
     Moved(Moved),
@@ -167,16 +167,16 @@ pub type MovedList = ListOf<Made>;
 #[derive(Drop)]
 pub struct OpenRead {
     pub select: Select,
-    /// The backends that failed in it.
+    /// The mask of the backends that failed in the read.
     pub tried: u32,
 }
 
-/// A dump that was taken. It covers the tables that its backend hosts.
+/// A dump that was taken: its name, its backend, whose tables it covers, and its position.
 #[derive(Drop)]
 pub struct TakenDump {
     pub name: Name,
     pub source: u8,
-    /// How many entries the backend had taken.
+    /// How many entries the backend had applied or skipped.
     pub position: u64,
 }
 
@@ -185,9 +185,9 @@ pub struct TakenDump {
 pub struct OpenSession {
     pub number: u64,
     pub user: Text,
-    /// How many requests it has made.
+    /// How many requests the session has made.
     pub requests: u64,
-    /// The position that its reads need at least.
+    /// The minimum position that the session's reads need.
     pub least: u64,
     pub reading: Option<OpenRead>,
 }

@@ -5,19 +5,19 @@ use cj_model::FrameFault;
 /// How a session over a source and a sink ended.
 #[derive(Clone, Copy, PartialEq, Eq)]
 pub enum SessionEnd {
-    /// By a Quit.
+    /// The client sent a Quit.
     Quit,
-    /// By the end of the input behind a whole frame.
+    /// The input ended after a whole frame.
     Eof,
-    /// By the end of the input inside a frame.
+    /// The input ended inside a frame.
     Cut,
-    /// By a faulty frame.
+    /// A frame was faulty.
     BadFrame(FrameFault),
     /// The source failed.
     ReadFault,
     /// The sink failed.
     WriteFault,
-    /// 2^62 bytes were taken.
+    /// 2^62 bytes of input were taken, and no end had come.
     Spent,
     NoMemory,
 }

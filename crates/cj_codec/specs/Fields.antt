@@ -30,11 +30,11 @@ number32 = number w32 (2 ^ 32)
 abbrev pub number64 : Format ℕ
 number64 = number w64 (2 ^ 64)
 
--- so many bytes
+-- n bytes
 abbrev pub block : ℕ → Format (List ℕ)
 block n = record { bytes = λ x. x; fits = λ x. length x ≡ n; partial = λ bytes. length bytes < n; reads = bytes_at Cut n }
 
--- bytes behind their number
+-- bytes after their length
 abbrev pub string : Format ℕ → Format (List ℕ)
 string count = behind count length block
 
@@ -47,7 +47,7 @@ string32 = string number32
 abbrev pub string64 : Format (List ℕ)
 string64 = string number64
 
--- a name behind its length of two bytes
+-- a name after its length of two bytes
 abbrev pub name : Format (List ℕ)
 name = such_that is_name string16
 
@@ -85,6 +85,6 @@ value_of_tag (suc (suc (suc tag))) = nothing
 abbrev pub value : Format Value
 value = behind byte tag_of value_of_tag
 
--- the bytes of a string64
+-- bytes after their length of eight bytes
 abbrev pub str64 : List ℕ → List ℕ
 str64 bytes = to_be_bytes w64 (length bytes) ++ bytes

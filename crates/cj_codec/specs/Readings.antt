@@ -1,4 +1,4 @@
--- What reading a field comes to.
+-- What reading a field gives.
 use Rattle.std.specs.Prelude.{◌≡◌, ◌≢◌, ℕ, ◌-◌, List, length, Result, Ok, Err}
 use Rattle.cj_codec.specs.declared.error.CodecError.{CodecError}
 use Rattle.cj_codec.specs.declared.error.CodecError.TheVariants as errors
@@ -14,7 +14,7 @@ GivesReading view (Ok x) read = read ≡ Ok (view x)
 GivesReading view (Err (stops.Fault fault)) read = read ≡ Err fault
 GivesReading view (Err stops.NoMemory) read = Unit {0}
 
--- how far a reader is: the bytes that are left, of so many
+-- a reader: the bytes that are left, and how many it was given
 pub record Place : Type 0 where
   pub rest : List ℕ
   pub size : ℕ
@@ -23,27 +23,29 @@ pub record Place : Type 0 where
 abbrev pub offset : Place → ℕ
 offset place = place.size - length place.rest
 
--- why a field that begins there was not read
+-- the error of a field that begins at this offset
 abbrev pub stopped_at : ℕ → Stop → CodecError
 stopped_at n (stops.Fault faults.Cut) = errors.Cut n
 stopped_at n (stops.Fault faults.BadField) = errors.BadField n
 stopped_at n stops.NoMemory = errors.NoMemory
 
--- A field was taken off, or the reader is where it was: the bytes end inside the field, or it isn't allowed, or memory ran out.
+-- A field was taken off; or the reader is where it was, as the bytes end inside the field, or it isn't allowed,
+-- or memory ran out.
 abbrev pub ReadsField : {X Y : Type 0} → Format Y → (X → Y) → Place → Place → Result X CodecError → Type 0
 ReadsField f view old new (Ok x) = (f.reads old.rest ≡ Ok (view x, new.rest)) × (new.size ≡ old.size)
 ReadsField f view old new (Err (errors.Cut n)) = (f.reads old.rest ≡ Err faults.Cut) × (n ≡ offset old) × (new ≡ old)
 ReadsField f view old new (Err (errors.BadField n)) = (f.reads old.rest ≡ Err faults.BadField) × (n ≡ offset old) × (new ≡ old)
 ReadsField f view old new (Err errors.NoMemory) = new ≡ old
 
--- The fields of a format were taken off, one after another; or the bytes end inside one of them, or one isn't allowed, or memory ran out. After an error nothing is said of the reader.
+-- Fields were taken off, one after another; or the bytes end inside one, or one isn't allowed, or memory ran out.
+-- After an error nothing is said of the reader.
 abbrev pub ReadsFields : {Y : Type 0} → Format Y → Place → Place → Result Y CodecError → Type 0
 ReadsFields f old new (Ok x) = (f.reads old.rest ≡ Ok (x, new.rest)) × (new.size ≡ old.size)
 ReadsFields f old new (Err (errors.Cut n)) = f.reads old.rest ≡ Err faults.Cut
 ReadsFields f old new (Err (errors.BadField n)) = f.reads old.rest ≡ Err faults.BadField
 ReadsFields f old new (Err errors.NoMemory) = Unit {0}
 
--- no value that the format may hold has these bytes
+-- the bytes are those of no value that the format may hold
 abbrev pub IsNoField : {Y : Type 0} → Format Y → List ℕ → Type 0
 IsNoField {Y} f bytes = (x : Y) → f.fits x → bytes ≢ f.bytes x
 

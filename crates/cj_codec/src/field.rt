@@ -15,20 +15,21 @@ pub trait Field {
 
     ghost format: { Self → Format Self.Item };
 
-    /// Takes it off the reader. After an error the reader is of no more use; no clause says which offset the error carries.
+    /// Takes a field of this format off the reader. After an error nothing is known of the reader's position.
+    /// No clause says which offset the error has.
     fn take(&self, reader: &mut Reader<'_>, alloc: Global) -> Result<Self::Item, CodecError>
         ensures { ReadsFields (format self.now) reader.old reader.new result };
 }
 
-/// A name behind its number of two bytes.
+/// A name, after its length of two bytes.
 #[derive(Clone, Copy)]
 pub struct NameField;
 
-/// A value behind its tag.
+/// A value, after its tag of one byte.
 #[derive(Clone, Copy)]
 pub struct ValueField;
 
-/// So many fields of one format, one after another.
+/// `count` fields of one format, one after another.
 #[derive(Clone, Copy)]
 pub struct Repeated<F> {
     pub field: F,
@@ -66,7 +67,7 @@ impl<F: Field> Field for Repeated<F> {
 }
 
 impl<'a> Reader<'a> {
-    /// Takes so many fields. An error is as that of `Field::take`.
+    /// Takes `count` fields. After an error nothing is known of the reader's position, or of the error's offset.
     pub fn items<F: Field>(
         &mut self,
         alloc: Global,
@@ -82,7 +83,8 @@ impl<'a> Reader<'a> {
         Ok(items)
     }
 
-    /// Takes the fields behind their number of two bytes. An error is as that of `Field::take`.
+    /// Takes a list of fields, after their number of two bytes.
+    /// After an error nothing is known of the reader's position, or of the error's offset.
     pub fn list16<F: Field>(
         &mut self,
         alloc: Global,
@@ -94,7 +96,8 @@ impl<'a> Reader<'a> {
         self.items(alloc, field, u64::from(count))
     }
 
-    /// Takes the fields behind their number of four bytes. An error is as that of `Field::take`.
+    /// Takes a list of fields, after their number of four bytes.
+    /// After an error nothing is known of the reader's position, or of the error's offset.
     pub fn list32<F: Field>(
         &mut self,
         alloc: Global,
@@ -107,8 +110,9 @@ impl<'a> Reader<'a> {
     }
 }
 
-/// The field that is all of the bytes. `Cut` and `BadField` come exactly where the bytes are those of no such field; which of them it
-/// is, and its offset, no clause says.
+/// Reads the one field that all of the bytes are.
+///
+/// `Cut` and `BadField` come exactly if the bytes are those of no such field. No clause says which of them it is.
 pub fn read_whole<F: Field>(alloc: Global, bytes: &[u8], field: &F) -> Result<F::Item, CodecError>
     requires { IsFormat (F.format field.now) }
     ensures { ReadsWhole (F.format field.now) bytes.now result }

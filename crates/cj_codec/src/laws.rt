@@ -2,21 +2,21 @@
 
 ghost use Rattle.cj_codec.specs.Laws.{FieldsAreFormats, FieldsHaveOneReading, FieldsAreSpelled, FieldsHold};
 
-/// What is written is read back, whatever follows it; what is read was written; and bytes are cut exactly where they end inside a
-/// field. With each format this holds of one behind another, of those values for which a test holds, and of lists behind their
-/// number (`proofs/Formats`).
+/// What is written reads back, whatever follows it. What is read was written. Bytes are cut exactly where they end
+/// inside a field. The law passes on to pairs, to values that meet a test, and to lists after their number
+/// (`proofs/Formats`).
 #[tactic(auto, using(crate::proofs::Fields::fields_law))]
 pub fn fields_are_formats()
     ensures { FieldsAreFormats }
 {}
 
-/// Two fields of one format with the same bytes, whatever follows, are one.
+/// Two values of one format whose bytes begin the same bytes are equal.
 #[tactic(auto, using(crate::proofs::Fields::fields_once))]
 pub fn fields_have_one_reading()
     ensures { FieldsHaveOneReading }
 {}
 
-/// The bytes of each field are those of the formats of frames and replies.
+/// The bytes of byte strings, names and values are those that frames and replies have.
 #[tactic(auto, using(crate::proofs::Fields::fields_spelled))]
 pub fn fields_are_spelled()
     ensures { FieldsAreSpelled }

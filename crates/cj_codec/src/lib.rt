@@ -1,8 +1,12 @@
-//! The one codec of binary formats: numbers, byte strings, names, values and lists, written at the end of bytes and read field by field
-//! from the front of bytes.
+//! The codec of all binary formats: numbers, byte strings, names, values and lists of fields, big-endian.
+//! Fields are appended to bytes by `put_..`, and read from the front of bytes by a `Reader`.
 //!
-//! Numbers have their most significant byte first. A format (`specs/Formats`) says the bytes of each value, which values a field may
-//! hold, where bytes end inside a field, and how it is read; formats are made of formats, and one law holds of each.
+//! A format (`specs/Formats`) says the bytes of each value, which values a field may hold, and how it is read.
+//! Contracts promise that what is written reads back, and that what is read was written (`IsFormat`, `laws.rt`).
+//! They also say exactly when bytes end inside a field. A field that is refused leaves the reader where it was.
+//! A new kind of field concerns `specs/Fields`, `read.rt`, `reader.rt`, `write.rt` and `laws.rt`.
+//! Formats of several fields implement `Field` in the crates that own them.
+//! Proofs begin in `proofs/Formats` (laws of every format); `proofs/Fields` applies them to each field.
 #![tactic(auto)]
 
 mod error;

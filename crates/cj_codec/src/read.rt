@@ -1,4 +1,4 @@
-//! Fields from the front of bytes: each with the bytes after it.
+//! Fields read from the front of bytes: each function answers the field, and the bytes after it.
 
 ghost use Rattle.cj_codec.specs.Fields.{byte, number16, number32, number64, block, string16, string32, string64, name, integer, stored_text, value};
 ghost use Rattle.cj_codec.specs.Readings.{GivesReading};
@@ -7,7 +7,7 @@ use crate::error::{Fault, Stop};
 use cj_model::{Name, TEXT_LIMIT, Text, Value};
 use std::alloc::Global;
 
-/// The first `count` bytes.
+/// Reads `count` bytes.
 fn block_of(bytes: &[u8], count: u64) -> Result<(&[u8], &[u8]), Stop>
     ensures { GivesReading (λ x. (x.0.now, x.1.now)) result ((block count).reads bytes.now) }
 {
@@ -17,6 +17,7 @@ fn block_of(bytes: &[u8], count: u64) -> Result<(&[u8], &[u8]), Stop>
     Ok(bytes.split_at(count as usize))
 }
 
+/// Reads a byte.
 pub fn u8_of(bytes: &[u8]) -> Result<(u8, &[u8]), Stop>
     ensures { GivesReading (λ x. (x.0, x.1.now)) result (byte.reads bytes.now) }
 {
@@ -26,6 +27,7 @@ pub fn u8_of(bytes: &[u8]) -> Result<(u8, &[u8]), Stop>
     }
 }
 
+/// Reads a number of two bytes, the most significant first.
 pub fn u16_of(bytes: &[u8]) -> Result<(u16, &[u8]), Stop>
     ensures { GivesReading (λ x. (x.0, x.1.now)) result (number16.reads bytes.now) }
 {
@@ -33,6 +35,7 @@ pub fn u16_of(bytes: &[u8]) -> Result<(u16, &[u8]), Stop>
     Ok((u16::from_be_bytes([front[0], front[1]]), rest))
 }
 
+/// Reads a number of four bytes, the most significant first.
 pub fn u32_of(bytes: &[u8]) -> Result<(u32, &[u8]), Stop>
     ensures { GivesReading (λ x. (x.0, x.1.now)) result (number32.reads bytes.now) }
 {
@@ -44,6 +47,7 @@ pub fn u32_of(bytes: &[u8]) -> Result<(u32, &[u8]), Stop>
     Ok((number, rest))
 }
 
+/// Reads a number of eight bytes, the most significant first.
 pub fn u64_of(bytes: &[u8]) -> Result<(u64, &[u8]), Stop>
     ensures { GivesReading (λ x. (x.0, x.1.now)) result (number64.reads bytes.now) }
 {
@@ -57,7 +61,7 @@ pub fn u64_of(bytes: &[u8]) -> Result<(u64, &[u8]), Stop>
     Ok((number, rest))
 }
 
-/// The bytes behind a length of two bytes.
+/// Reads bytes, after their length of two bytes.
 pub fn str16_of(bytes: &[u8]) -> Result<(&[u8], &[u8]), Stop>
     ensures { GivesReading (λ x. (x.0.now, x.1.now)) result (string16.reads bytes.now) }
 {
@@ -65,7 +69,7 @@ pub fn str16_of(bytes: &[u8]) -> Result<(&[u8], &[u8]), Stop>
     block_of(rest, u64::from(count))
 }
 
-/// The bytes behind a length of four bytes.
+/// Reads bytes, after their length of four bytes.
 pub fn str32_of(bytes: &[u8]) -> Result<(&[u8], &[u8]), Stop>
     ensures { GivesReading (λ x. (x.0.now, x.1.now)) result (string32.reads bytes.now) }
 {
@@ -73,7 +77,7 @@ pub fn str32_of(bytes: &[u8]) -> Result<(&[u8], &[u8]), Stop>
     block_of(rest, u64::from(count))
 }
 
-/// The bytes behind a length of eight bytes.
+/// Reads bytes, after their length of eight bytes.
 pub fn str64_of(bytes: &[u8]) -> Result<(&[u8], &[u8]), Stop>
     ensures { GivesReading (λ x. (x.0.now, x.1.now)) result (string64.reads bytes.now) }
 {
@@ -81,7 +85,7 @@ pub fn str64_of(bytes: &[u8]) -> Result<(&[u8], &[u8]), Stop>
     block_of(rest, count)
 }
 
-/// The name behind a length of two bytes.
+/// Reads a name, after its length of two bytes.
 pub fn name_of(bytes: &[u8]) -> Result<(Name, &[u8]), Stop>
     ensures { GivesReading (λ x. (x.0, x.1.now)) result (name.reads bytes.now) }
 {
@@ -92,7 +96,7 @@ pub fn name_of(bytes: &[u8]) -> Result<(Name, &[u8]), Stop>
     }
 }
 
-/// A number in two's complement.
+/// Reads a signed number: two's complement in eight bytes.
 pub fn i64_of(bytes: &[u8]) -> Result<(i64, &[u8]), Stop>
     ensures { GivesReading (λ x. (x.0, x.1.now)) result (integer.reads bytes.now) }
 {
@@ -100,7 +104,7 @@ pub fn i64_of(bytes: &[u8]) -> Result<(i64, &[u8]), Stop>
     Ok((number.cast_signed(), rest))
 }
 
-/// A copy of the text behind a length of four bytes.
+/// Reads a text, after its length of four bytes, and copies it.
 pub fn text_of(alloc: Global, bytes: &[u8]) -> Result<(Text, &[u8]), Stop>
     ensures { GivesReading (λ x. (x.0, x.1.now)) result (stored_text.reads bytes.now) }
 {
@@ -114,7 +118,7 @@ pub fn text_of(alloc: Global, bytes: &[u8]) -> Result<(Text, &[u8]), Stop>
     }
 }
 
-/// The value behind its tag; a text is copied.
+/// Reads a value, after its tag of one byte; a text is copied.
 pub fn value_of(alloc: Global, bytes: &[u8]) -> Result<(Value, &[u8]), Stop>
     ensures { GivesReading (λ x. (x.0, x.1.now)) result (value.reads bytes.now) }
 {

@@ -10,11 +10,11 @@ use cj_model::{Name, Value};
 use std::alloc::Global;
 use std::marker::Model;
 
-/// Bytes that are read field by field, and how far that is.
+/// A reader of bytes, field by field, with its offset. A field that is refused leaves the reader where it was.
 #[derive(Drop)]
 pub struct Reader<'a> {
     rest: &'a [u8],
-    /// How many bytes it was given.
+    /// How many bytes the reader was given.
     size: u64,
 }
 
@@ -27,7 +27,7 @@ impl<'a> Model for Reader<'a> {
 }
 
 impl<'a> Reader<'a> {
-    /// A reader at the first of the bytes.
+    /// A reader of these bytes, at offset 0.
     pub fn new(bytes: &'a [u8]) -> Reader<'a>
         ensures { result ≡ record { rest = bytes.now; size = length bytes.now } }
     {
@@ -37,7 +37,7 @@ impl<'a> Reader<'a> {
         }
     }
 
-    /// How many bytes are taken.
+    /// The offset of the next byte: how many bytes are taken.
     pub fn offset(&self) -> u64
         ensures { result ≡ offset self.now }
     {
@@ -51,7 +51,7 @@ impl<'a> Reader<'a> {
         self.rest.is_empty()
     }
 
-    /// The error of a field that begins here.
+    /// The error of a field that begins at the reader's offset.
     fn stopped(&self, stop: Stop) -> CodecError
         ensures { result ≡ stopped_at (offset self.now) stop }
     {
@@ -62,7 +62,7 @@ impl<'a> Reader<'a> {
         }
     }
 
-    /// Takes a byte.
+    /// Takes a byte. `Cut` if none is left.
     pub fn u8(&mut self) -> Result<u8, CodecError>
         ensures { ReadsField byte (λ x. x) self.old self.new result }
     {
@@ -76,7 +76,7 @@ impl<'a> Reader<'a> {
         }
     }
 
-    /// Takes a number of two bytes, the most significant first.
+    /// Takes a number of two bytes, the most significant first. `Cut` if fewer are left.
     pub fn u16(&mut self) -> Result<u16, CodecError>
         ensures { ReadsField number16 (λ x. x) self.old self.new result }
     {
@@ -90,7 +90,7 @@ impl<'a> Reader<'a> {
         }
     }
 
-    /// Takes a number of four bytes, the most significant first.
+    /// Takes a number of four bytes, the most significant first. `Cut` if fewer are left.
     pub fn u32(&mut self) -> Result<u32, CodecError>
         ensures { ReadsField number32 (λ x. x) self.old self.new result }
     {
@@ -104,7 +104,7 @@ impl<'a> Reader<'a> {
         }
     }
 
-    /// Takes a number of eight bytes, the most significant first.
+    /// Takes a number of eight bytes, the most significant first. `Cut` if fewer are left.
     pub fn u64(&mut self) -> Result<u64, CodecError>
         ensures { ReadsField number64 (λ x. x) self.old self.new result }
     {
@@ -118,7 +118,7 @@ impl<'a> Reader<'a> {
         }
     }
 
-    /// Takes the bytes behind their number of two bytes. `Cut` carries where that number begins.
+    /// Takes bytes, after their length of two bytes. `Cut`, if fewer are left, has the offset of that length.
     pub fn str16(&mut self) -> Result<&'a [u8], CodecError>
         ensures { ReadsField string16 (λ x. x.now) self.old self.new result }
     {
@@ -132,7 +132,7 @@ impl<'a> Reader<'a> {
         }
     }
 
-    /// Takes the bytes behind their number of four bytes. `Cut` carries where that number begins.
+    /// Takes bytes, after their length of four bytes. `Cut`, if fewer are left, has the offset of that length.
     pub fn str32(&mut self) -> Result<&'a [u8], CodecError>
         ensures { ReadsField string32 (λ x. x.now) self.old self.new result }
     {
@@ -146,7 +146,7 @@ impl<'a> Reader<'a> {
         }
     }
 
-    /// Takes the bytes behind their number of eight bytes. `Cut` carries where that number begins.
+    /// Takes bytes, after their length of eight bytes. `Cut`, if fewer are left, has the offset of that length.
     pub fn str64(&mut self) -> Result<&'a [u8], CodecError>
         ensures { ReadsField string64 (λ x. x.now) self.old self.new result }
     {
@@ -160,7 +160,7 @@ impl<'a> Reader<'a> {
         }
     }
 
-    /// Takes a name behind its number of two bytes. Bytes that are no name are a `BadField`.
+    /// Takes a name, after its length of two bytes. Bytes that are no name are a `BadField`.
     pub fn name(&mut self) -> Result<Name, CodecError>
         ensures { ReadsField name (λ x. x) self.old self.new result }
     {
@@ -174,8 +174,10 @@ impl<'a> Reader<'a> {
         }
     }
 
-    /// Takes a value and copies its text. A tag that is neither 01 nor 02, and a text that isn't UTF-8 without byte 0 or has more
-    /// than `TEXT_LIMIT` bytes, is a `BadField`.
+    /// Takes a value, after its tag, and copies its text.
+    ///
+    /// `BadField` comes for a tag that is neither 01 nor 02, for a text that is not UTF-8 without byte 0, and for one
+    /// of more than `TEXT_LIMIT` bytes.
     pub fn value(&mut self, alloc: Global) -> Result<Value, CodecError>
         ensures { ReadsField value (λ x. x) self.old self.new result }
     {

@@ -1,4 +1,4 @@
-//! Fields at the end of bytes.
+//! Fields written at the end of bytes.
 
 ghost use Rattle.std.specs.Prelude.{◌<◌, ◌≤◌, ◌^◌, ◌∷◌, [], length};
 ghost use Rattle.std.specs.Int.{w16, w32, w64, to_be_bytes};
@@ -9,7 +9,7 @@ ghost use Rattle.cj_codec.specs.Writings.{Appends, HasShortText};
 
 use cj_model::{NoMemory, Value};
 
-/// Adds a byte; want of memory leaves the bytes as they were, or with a front of the field added.
+/// Appends a byte. Out of memory leaves the bytes as they were, or with a front of the field.
 pub fn put_u8(out: &mut Vec<u8>, number: u8) -> Result<(), NoMemory>
     ensures { Appends (number ∷ []) out.old.items out.new.items result }
 {
@@ -17,7 +17,7 @@ pub fn put_u8(out: &mut Vec<u8>, number: u8) -> Result<(), NoMemory>
     Ok(())
 }
 
-/// Adds a number as two bytes, the most significant first; want of memory as for `put_u8`.
+/// Appends a number as two bytes, the most significant first. Out of memory may leave a front of them.
 pub fn put_u16(out: &mut Vec<u8>, number: u16) -> Result<(), NoMemory>
     ensures { Appends (to_be_bytes w16 number) out.old.items out.new.items result }
 {
@@ -25,7 +25,7 @@ pub fn put_u16(out: &mut Vec<u8>, number: u16) -> Result<(), NoMemory>
     Ok(())
 }
 
-/// Adds a number as four bytes, the most significant first; want of memory as for `put_u8`.
+/// Appends a number as four bytes, the most significant first. Out of memory may leave a front of them.
 pub fn put_u32(out: &mut Vec<u8>, number: u32) -> Result<(), NoMemory>
     ensures { Appends (to_be_bytes w32 number) out.old.items out.new.items result }
 {
@@ -33,7 +33,7 @@ pub fn put_u32(out: &mut Vec<u8>, number: u32) -> Result<(), NoMemory>
     Ok(())
 }
 
-/// Adds a number as eight bytes, the most significant first; want of memory as for `put_u8`.
+/// Appends a number as eight bytes, the most significant first. Out of memory may leave a front of them.
 pub fn put_u64(out: &mut Vec<u8>, number: u64) -> Result<(), NoMemory>
     ensures { Appends (to_be_bytes w64 number) out.old.items out.new.items result }
 {
@@ -41,7 +41,7 @@ pub fn put_u64(out: &mut Vec<u8>, number: u64) -> Result<(), NoMemory>
     Ok(())
 }
 
-/// Adds bytes as they are; want of memory as for `put_u8`.
+/// Appends bytes as they are. Out of memory may leave a front of them.
 fn put_block(out: &mut Vec<u8>, bytes: &[u8]) -> Result<(), NoMemory>
     ensures { Appends bytes.now out.old.items out.new.items result }
 {
@@ -49,7 +49,7 @@ fn put_block(out: &mut Vec<u8>, bytes: &[u8]) -> Result<(), NoMemory>
     Ok(())
 }
 
-/// Adds at most 65,535 bytes behind their number of two bytes; want of memory as for `put_u8`.
+/// Appends a length of two bytes, and then the bytes, at most 65,535. Out of memory may leave a front of the field.
 pub fn put_str16(out: &mut Vec<u8>, bytes: &[u8]) -> Result<(), NoMemory>
     requires { length bytes.now < 2 ^ 16 }
     ensures { Appends (str16 bytes.now) out.old.items out.new.items result }
@@ -58,7 +58,7 @@ pub fn put_str16(out: &mut Vec<u8>, bytes: &[u8]) -> Result<(), NoMemory>
     put_block(out, bytes)
 }
 
-/// Adds fewer than 2^32 bytes behind their number of four bytes; want of memory as for `put_u8`.
+/// Appends a length of four bytes, and then the bytes, fewer than 2^32. Out of memory may leave a front of the field.
 pub fn put_str32(out: &mut Vec<u8>, bytes: &[u8]) -> Result<(), NoMemory>
     requires { length bytes.now < 2 ^ 32 }
     ensures { Appends (str32 bytes.now) out.old.items out.new.items result }
@@ -67,7 +67,7 @@ pub fn put_str32(out: &mut Vec<u8>, bytes: &[u8]) -> Result<(), NoMemory>
     put_block(out, bytes)
 }
 
-/// Adds bytes behind their number of eight bytes; want of memory as for `put_u8`.
+/// Appends a length of eight bytes, and then the bytes. Out of memory may leave a front of the field.
 pub fn put_str64(out: &mut Vec<u8>, bytes: &[u8]) -> Result<(), NoMemory>
     ensures { Appends (str64 bytes.now) out.old.items out.new.items result }
 {
@@ -75,8 +75,10 @@ pub fn put_str64(out: &mut Vec<u8>, bytes: &[u8]) -> Result<(), NoMemory>
     put_block(out, bytes)
 }
 
-/// Adds a value: 01 and eight bytes of two's complement, or 02 and its text behind four bytes of length; want of memory as for `put_u8`.
-/// A text of more than `TEXT_LIMIT` bytes isn't read again.
+/// Appends a value: 01 and eight bytes of two's complement, or 02, four bytes of length and the text.
+///
+/// A text has fewer than 2^32 bytes; with more than `TEXT_LIMIT` it isn't read back.
+/// Out of memory may leave a front of the field.
 pub fn put_value(out: &mut Vec<u8>, value: &Value) -> Result<(), NoMemory>
     requires { HasShortText value.now }
     ensures { Appends (value_bytes value.now) out.old.items out.new.items result }

@@ -1,4 +1,4 @@
--- What a text may say: its tokens, the grammar of statements, literals, names, and calls of the clock and of random numbers.
+-- What a text may say: its tokens, the grammar of statements, literals, names, and calls of clock and random numbers.
 pub mod ConditionForms
 pub mod Grammar
 pub mod Lexical

@@ -18,7 +18,7 @@ impl Refusal {
     ghost use Rattle.std.specs.Prelude.{◌≡◌};
     ghost use Rattle.cj_model.specs.Database.Inserts as inserts;
 
-    /// The refusal whose numbers say nothing.
+    /// The refusal with this code, and with 0 for both of its numbers.
     pub fn of_code(code: u16) -> Refusal
         ensures { result ≡ inserts.refusal_of_code code }
     {
@@ -26,7 +26,7 @@ impl Refusal {
     }
 }
 
-/// The rows of an answer, in one memory.
+/// The rows of an answer, whose values are all in one vector.
 pub type AnswerRows = ListsOf<Value>;
 
 /// The rows of a query: one value for each column.
@@ -47,14 +47,14 @@ pub enum Reply {
     Refused(Refusal),
 }
 
-/// What an entry of the log came to.
+/// The outcome of a log entry: a count (of rows for a write, else 0), or a refusal.
 #[derive(Clone, Copy, PartialEq, Eq)]
 pub enum Outcome {
     Done(u64),
     Refused(Refusal),
 }
 
-/// What a query came to.
+/// The answer to a query: its rows, or a refusal.
 #[derive(Drop)]
 pub enum Asked {
     Rows(Answer),

@@ -3,7 +3,7 @@
 use crate::answer::Answer;
 use crate::select::Select;
 
-/// The answer of a statement, as it was at a number of the log.
+/// A kept answer: the SELECT, its rows, and the log position (a number of entries) at which it was answered.
 #[derive(Drop)]
 pub struct Cached {
     pub select: Select,

@@ -30,23 +30,23 @@ pub const BAD_COLUMNS: u16 = 24;
 pub const LOCKED: u16 = 25;
 /// A number outside 64 bits.
 pub const OVERFLOW: u16 = 26;
-/// A key that is there already, or stands twice in the statement.
+/// A key that the table has already, or that the statement has twice.
 pub const DUPLICATE: u16 = 27;
-/// A value of another kind than is wanted.
+/// A value whose kind doesn't fit its column or operation.
 pub const WRONG_TYPE: u16 = 28;
 /// The table would have `a` rows, more than it may.
 pub const ROWS_FULL: u16 = 29;
 /// The answer's frame would have `a` bytes, more than it may.
 pub const TOO_LARGE: u16 = 30;
-/// No target finished the entry: those of mask `a` failed, those of mask `b` wanted memory.
+/// No target finished the entry: those of mask `a` failed, those of mask `b` ran out of memory.
 pub const UNFINISHED: u16 = 40;
 /// Each backend of mask `a`, all that serve the read, failed in it.
 pub const READ_FAULT: u16 = 41;
 /// The log's store failed; nothing is scheduled.
 pub const LOG_FAULT: u16 = 42;
-/// Want of memory; nothing is scheduled.
+/// The controller ran out of memory; nothing is scheduled.
 pub const NO_MEMORY: u16 = 43;
-/// Each target, those of mask `b`, wanted memory in the entry, which is scheduled.
+/// The entry is scheduled, and each of its targets ran out of memory; mask `b` has them.
 pub const STARVED_ALL: u16 = 44;
 /// The history of `a` events has no room.
 pub const HISTORY_FULL: u16 = 45;

@@ -17,8 +17,8 @@ pub enum CondNode {
     Or(Box<CondNode>, Box<CondNode>),
 }
 
-/// A loop goes down the left, where connectives in a row make a tree deep. To the right one is no
-/// deeper than its parentheses.
+/// Frees a condition's tree. A loop goes down the left, where connectives in a row make the tree deep.
+/// To the right a tree is no deeper than its parentheses.
 impl Drop for CondNode {
     fn drop(mut self) {
         loop {
@@ -69,8 +69,8 @@ impl CondNode {
     ghost use Rattle.std.specs.Prelude.{◌≡◌, IfOk};
     ghost use Rattle.cj_model.specs.Proving.ConditionNodes.{condition_of_node};
 
-    /// A node of the same tree, in its box, so that a level of the recursion takes little of the
-    /// stack.
+    /// Copies the tree under this node; fails if memory runs out.
+    /// The copy is in a box, so that a level of the recursion needs little of the stack.
     pub fn copy(&self, alloc: Global) -> Result<Box<CondNode>, NoMemory>
         ensures { IfOk result (λ copy. condition_of_node copy.value ≡ condition_of_node self.now) }
     {
@@ -100,19 +100,21 @@ impl Cond {
     ghost use Rattle.cj_model.specs.Proving.Lent.{LendsRoot};
     ghost use Rattle.cj_model.specs.Proving.ConditionNodes.{condition_of_node};
 
+    /// The condition whose tree has this root.
     pub fn of(root: CondNode) -> Cond
         ensures { result ≡ condition_of_node root }
     {
         Cond { root }
     }
 
+    /// The root of the condition's tree.
     pub fn root(&self) -> &CondNode
         ensures { condition_of_node result.now ≡ self.now }
     {
         &self.root
     }
 
-    /// The tree, to be changed in place.
+    /// The root of the condition's tree, to be changed in place.
     pub fn root_mut(&mut self) -> &mut CondNode
         ensures* lends { sem 𝓛 (LendsRoot self.entry result) }
         ensures root { condition_of_node result.now ≡ self.old }

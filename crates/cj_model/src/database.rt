@@ -11,7 +11,7 @@ pub type Row = ListOf<Value>;
 
 pub type Rows = ListOf<Row>;
 
-/// A schema and rows of it, in rising key.
+/// A table: its schema, and its rows in rising order of the primary key.
 #[derive(Drop)]
 pub struct Table {
     pub schema: Schema,

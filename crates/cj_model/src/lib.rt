@@ -1,5 +1,13 @@
-//! The vocabulary of the controller: the types of requests, answers and databases, and the
-//! definitions that the contracts of all crates cite (`specs/`), with their laws (`proofs/`).
+//! The vocabulary of the controller: types of requests, answers, databases, entries and messages.
+//!
+//! Contracts see each value as plain data: names and texts as bytes, conditions as trees, sets as rising lists.
+//! A copy equals its original, and an allocation failure is its only error. `Same` decides that equality.
+//! `specs/` defines what every other crate's contract cites. `Sql` has the grammar, `Database` what statements do.
+//! `Wire` has frames and replies, `Cluster` placements, balancing, accounts and the result cache.
+//! A change of SQL usually concerns `request.rt`, `select.rt`, `write.rt`, `term.rt`, `specs/Sql`, `specs/Database`.
+//! Refusals are in `codes.rt`, limits in `limits.rt`. Nearly every crate uses this one: a change proves all again.
+//! Proofs begin in `proofs/DatabaseLaws`: a step leaves a database a database. `PartLaws` treats a backend's part.
+//! `proofs/Worked` has statements with their results on a table of three rows.
 #![tactic(auto)]
 
 mod account;

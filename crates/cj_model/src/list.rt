@@ -1,4 +1,4 @@
-//! The one list type behind all lists of the vocabulary.
+//! The list type of which all lists of the vocabulary are made.
 
 ghost use Rattle.std.specs.Prelude.{◌≡◌, ◌↔◌, ◌≤◌, List, [], ◌∷◌, ◌++◌, insert, length, IfOk, IsTrue, OnOk, OnErr, Some, None};
 
@@ -27,7 +27,7 @@ impl<T> ListOf<T> {
     ghost use Rattle.std.specs.Borrow.{sem};
     ghost use Rattle.cj_model.specs.Proving.Lent.{LendsItems};
 
-    /// The empty list, which takes no memory.
+    /// An empty list; allocates nothing.
     pub fn new(alloc: Global) -> Self
         ensures { result ≡ [] }
     {
@@ -36,12 +36,14 @@ impl<T> ListOf<T> {
         }
     }
 
+    /// The list of a vector's items.
     pub fn from_vec(items: Vec<T>) -> Self
         ensures { result ≡ items.items }
     {
         ListOf { items }
     }
 
+    /// The items of the list, as a vector.
     pub fn into_vec(self) -> Vec<T>
         ensures { result.items ≡ self }
     {
@@ -55,7 +57,7 @@ impl<T> ListOf<T> {
         &self.items
     }
 
-    /// The items, to be changed in place.
+    /// The items of the list, to be changed in place.
     pub fn as_mut_slice(&mut self) -> &mut [T]
         ensures* lends { sem 𝓛 (LendsItems T.row self.entry result) }
         ensures items { result.now ≡ self.old }
@@ -77,8 +79,8 @@ impl<T> ListOf<T> {
 }
 
 impl<T: Drop> ListOf<T> {
-    /// Adds an item at the end; want of memory leaves the list as it was. A first item takes room for itself alone, since most
-    /// lists of a statement have no second.
+    /// Adds an item at the end. Out of memory leaves the list as it was.
+    /// For a first item room is made for that alone, since most lists of a statement have no second.
     pub fn push(&mut self, item: T) -> Result<(), NoMemory>
         ensures ok { OnOk result (self.new ≡ self.old ++ item ∷ []) }
         ensures err { OnErr result (self.new ≡ self.old) }
@@ -90,8 +92,8 @@ impl<T: Drop> ListOf<T> {
         Ok(())
     }
 
-    /// Adds an item in front of the one at a place, or at the end; want of memory leaves the list as
-    /// it was.
+    /// Inserts an item before the one at index `place`, or at the end if `place` is the length.
+    /// Out of memory leaves the list as it was.
     pub fn insert(&mut self, place: usize, item: T) -> Result<(), NoMemory>
         requires { place ≤ length self.old }
         ensures ok { OnOk result (self.new ≡ insert self.old place item) }
@@ -101,7 +103,7 @@ impl<T: Drop> ListOf<T> {
         Ok(())
     }
 
-    /// Takes the last item off, if there is one.
+    /// Removes the last item and returns it; `None` if the list is empty.
     pub fn pop(&mut self) -> Option<T>
         ensures some { (before : List T) (item : T) → self.old ≡ before ++ item ∷ [] → (self.new ≡ before) × (result ≡ Some item) }
         ensures none { self.old ≡ [] → (self.new ≡ []) × (result ≡ None) }
@@ -110,7 +112,7 @@ impl<T: Drop> ListOf<T> {
     }
 }
 
-/// Copies of the items, in memory for just so many.
+/// Copies the items into a vector with room for just so many; fails if memory runs out.
 pub fn copies<T: Duplicate + Drop>(alloc: Global, items: &[T]) -> Result<Vec<T>, NoMemory>
     ensures { IfOk result (λ copies. copies.items ≡ items.now) }
 {

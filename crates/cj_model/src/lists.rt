@@ -1,4 +1,4 @@
-//! Lists of one type, one behind another in one memory.
+//! Lists of one type, one after another in one vector.
 
 ghost use Rattle.std.specs.Prelude.{◌≡◌, [], ◌∷◌, ◌++◌, length, take, drop, IfOk, OnErr, OnOk};
 ghost use Rattle.std.specs.List.{flat_map};
@@ -9,15 +9,15 @@ use crate::memory::{Duplicate, NoMemory};
 use std::alloc::Global;
 use std::marker::Model;
 
-/// Lists in one memory, which contracts see as a list of lists. Each takes the memory of its items and of a number.
+/// Lists in one vector, which contracts see as a list of lists. Each needs memory for its items and one number.
 #[derive(Drop)]
 pub struct ListsOf<T> {
     items: Vec<T>,
-    /// How many of the items are each list's.
+    /// The length of each list, in order.
     lengths: Vec<usize>,
 }
 
-/// The lists, one after another, which contracts see as those that are left.
+/// An iterator over the lists of a `ListsOf`, which contracts see as the lists that are left.
 #[derive(Drop)]
 pub struct Walk<'a, T> {
     items: &'a [T],
@@ -53,7 +53,7 @@ impl<'a, T> Model for Walk<'a, T> {
 }
 
 impl<T: Drop> ListsOf<T> {
-    /// No lists, which take no memory.
+    /// A list of no lists; allocates nothing.
     pub fn new(alloc: Global) -> Self
         ensures { result ≡ [] }
     {
@@ -63,7 +63,7 @@ impl<T: Drop> ListsOf<T> {
         }
     }
 
-    /// Adds a list at the end; want of memory leaves the others as they were.
+    /// Adds a list at the end. Out of memory leaves the lists as they were, and the new one is lost.
     pub fn push(&mut self, list: ListOf<T>) -> Result<(), NoMemory>
         ensures ok { OnOk result (self.new ≡ self.old ++ list ∷ []) }
         ensures err { OnErr result (self.new ≡ self.old) }
@@ -76,7 +76,7 @@ impl<T: Drop> ListsOf<T> {
         Ok(())
     }
 
-    /// Leaves at most so many lists, from the front.
+    /// Keeps the first `count` lists and drops the others. Fewer than `count` lists all stay.
     pub fn truncate(&mut self, count: usize)
         ensures { self.new ≡ take count self.old }
     {
@@ -89,7 +89,7 @@ impl<T: Drop> ListsOf<T> {
         self.items.truncate(kept);
     }
 
-    /// The lists, which are moved out of their memory.
+    /// Moves the items of the lists into one vector. If memory runs out, the lists are lost.
     pub fn of(alloc: Global, lists: ListOf<ListOf<T>>) -> Result<Self, NoMemory>
         ensures { IfOk result (λ made. made ≡ lists) }
     {
@@ -103,13 +103,14 @@ impl<T: Drop> ListsOf<T> {
 
 impl<T> ListsOf<T> {
     #[tactic(auto, using(crate::proofs::CutLaws::cut_count))]
+    /// How many lists there are.
     pub fn len(&self) -> usize
         ensures { result ≡ length self.now }
     {
         self.lengths.len()
     }
 
-    /// The items of all lists, one behind another.
+    /// The items of all lists, one list after another.
     #[tactic(auto, using(crate::proofs::CutLaws::cut_together))]
     pub fn items(&self) -> &[T]
         ensures { result.now ≡ flat_map (λ list. list) self.now }
@@ -117,7 +118,7 @@ impl<T> ListsOf<T> {
         &self.items
     }
 
-    /// How many items stand behind the first lists.
+    /// How many items come after the first `count` lists.
     fn behind(&self, count: usize) -> usize
         ensures { result ≡ length (flat_map (λ list. list) (drop count self.now)) }
     {
@@ -128,6 +129,7 @@ impl<T> ListsOf<T> {
         walk.items.len()
     }
 
+    /// An iterator over all lists, from the first.
     pub fn iter(&self) -> Walk<'_, T>
         ensures { result ≡ self.now }
     {

@@ -1,11 +1,11 @@
-//! Want of memory, and copies that may meet it.
+//! Allocation failure, and copies that may fail by it.
 
 ghost use Rattle.std.specs.Prelude.{◌≡◌, IfOk};
 
 use std::alloc::{AllocError, AllocFailed, Global};
 use thiserror::Error;
 
-/// There is no memory for what was asked.
+/// An allocation failed.
 #[derive(Clone, Copy, Debug, PartialEq, Eq, Error)]
 #[error("out of memory")]
 pub struct NoMemory;
@@ -22,8 +22,9 @@ impl<T: Drop> From<AllocFailed<T>> for NoMemory {
     }
 }
 
-/// A value that can be copied where there is memory.
+/// A value that can be copied if there is memory for the copy.
 pub trait Duplicate {
+    /// Copies the value; the copy is equal to it. Fails if memory runs out.
     fn copy(&self, alloc: Global) -> Result<Self, NoMemory>
         ensures { IfOk result (λ copy. copy ≡ self.now) };
 }

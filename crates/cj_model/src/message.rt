@@ -50,7 +50,7 @@ impl FrameFault {
     ghost use Rattle.std.specs.Prelude.{◌≡◌};
     ghost use Rattle.cj_model.specs.Wire.Frames.{fault_number};
 
-    /// The number by which a client is told of it.
+    /// The fault's number, which a client gets in the refusal `BAD_FRAME`.
     pub fn number(self) -> u64
         ensures { result ≡ fault_number self }
     {

@@ -13,7 +13,7 @@ use std::alloc::Global;
 use std::marker::Model;
 
 /// A name: 1 to `NAME_LIMIT` ASCII letters in lower case, digits and `_`, not beginning with a digit.
-/// It takes no memory. The empty name stands only where that is said.
+/// A name allocates nothing. The empty name occurs only where that is said.
 #[derive(Debug, Drop)]
 pub struct Name {
     bytes: [u8; NAME_LIMIT],
@@ -75,7 +75,7 @@ fn is_name(bytes: &[u8]) -> bool
     bytes.len() <= NAME_LIMIT && is_spelled_as_name(bytes)
 }
 
-/// The word in lower case, at the front of a place for names.
+/// The word in lower case, at the front of an array of `NAME_LIMIT` bytes.
 fn lowered(word: &[u8]) -> [u8; NAME_LIMIT]
     requires { length word.now ≤ NAME_LIMIT }
     ensures { take (length word.now) result ≡ map lower word.now }
@@ -88,7 +88,7 @@ fn lowered(word: &[u8]) -> [u8; NAME_LIMIT]
 }
 
 impl Name {
-    /// The name of no bytes.
+    /// The empty name, of no bytes.
     pub fn empty() -> Name
         ensures { result ≡ [] }
     {
@@ -98,7 +98,7 @@ impl Name {
         }
     }
 
-    /// The bytes as a name; none exactly where they are no name.
+    /// The bytes as a name; `None` exactly where they are no name.
     pub fn of(bytes: &[u8]) -> Option<Name>
         ensures { result ≡ name_of bytes.now }
     {
@@ -113,7 +113,7 @@ impl Name {
         })
     }
 
-    /// The word in lower case as a name; none exactly where that is no name.
+    /// The word, turned to lower case, as a name; `None` exactly where that is no name.
     pub fn lower(word: &[u8]) -> Option<Name>
         ensures { result ≡ name_of (map lower word.now) }
     {
@@ -124,6 +124,7 @@ impl Name {
         Name::of(&place[..word.len()])
     }
 
+    /// The bytes of the name.
     pub fn as_slice(&self) -> &[u8]
         ensures value { result.now ≡ self.now }
         ensures name { IsNameOrEmpty self.now }
@@ -131,7 +132,7 @@ impl Name {
         &self.bytes[..self.len as usize]
     }
 
-    /// A copy, which takes no memory.
+    /// Copies the name; allocates nothing and can't fail.
     pub fn copy(&self) -> Name
         ensures { result ≡ self.now }
     {
@@ -141,7 +142,7 @@ impl Name {
         }
     }
 
-    /// Whether the two are one name.
+    /// Whether this name has the same bytes as the other.
     pub fn is(&self, other: &Name) -> bool
         ensures { result ≡ bytes_eq self.now other.now }
     {

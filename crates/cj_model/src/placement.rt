@@ -5,7 +5,7 @@ use crate::memory::{Duplicate, NoMemory};
 use crate::name::{Name, Names};
 use std::alloc::Global;
 
-/// How often a table is held.
+/// The RAIDb level of a cluster: on which backends each table is.
 #[derive(Clone, Copy, PartialEq, Eq)]
 pub enum Level {
     /// Partitioned: each table is on one backend.

@@ -1,12 +1,12 @@
 //! How the backend is picked that a read is sent to.
 
-/// Which of the candidates takes the next read.
+/// The rule by which one of several candidate backends is picked for the next read.
 #[derive(Clone, Copy, PartialEq, Eq)]
 pub enum Policy {
-    /// The first one after the last picked, in rising order and round again.
+    /// The next candidate after the backend picked last, in rising number, and then again from 0.
     RoundRobin,
-    /// The one that was picked least often for its weight.
+    /// The candidate that was picked least often for its weight.
     Weighted,
-    /// The one with the fewest reads that haven't ended.
+    /// The candidate with the fewest reads that haven't ended.
     LeastPending,
 }

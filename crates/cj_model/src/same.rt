@@ -1,4 +1,4 @@
-//! Whether two values are one: the equality that contracts see.
+//! Equality of values, as contracts see them.
 
 ghost use Rattle.std.specs.Prelude.{◌≡◌, ◌↔◌, IsTrue};
 
@@ -10,9 +10,9 @@ use crate::term::{Cmp, ColRef, Term};
 use crate::text::{BoxedText, Text};
 use crate::value::Value;
 
-/// A value that can be told from another of its type.
+/// A value that can be compared for equality with another of its type.
 pub trait Same {
-    /// Whether the two are one value.
+    /// Whether this value equals the other, as contracts see both.
     fn is_same(&self, other: &Self) -> bool
         ensures { IsTrue result ↔ (self.now ≡ other.now) };
 }
@@ -46,7 +46,7 @@ impl<T: Same> Same for Option<T> {
     }
 }
 
-/// Whether the two have the same items.
+/// Whether the two slices have equal items in the same order.
 pub fn are_same<T: Same>(mut one: &[T], mut two: &[T]) -> bool
     ensures { IsTrue result ↔ (one.entry.now ≡ two.entry.now) }
 {
@@ -133,7 +133,7 @@ impl Same for Cmp {
 impl CondNode {
     ghost use Rattle.cj_model.specs.Proving.ConditionNodes.{condition_of_node};
 
-    /// Whether the two are nodes of one tree.
+    /// Whether the trees under the two nodes are equal.
     pub fn is_same(&self, other: &CondNode) -> bool
         ensures { IsTrue result ↔ (condition_of_node self.now ≡ condition_of_node other.now) }
     {

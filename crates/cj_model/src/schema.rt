@@ -20,7 +20,7 @@ pub type Columns = ListOf<Column>;
 pub struct Schema {
     pub table: Name,
     pub columns: Columns,
-    /// The place of the primary key among the columns.
+    /// The index of the primary key among the columns.
     pub key: u16,
 }
 
@@ -29,7 +29,7 @@ pub struct Schema {
 pub struct ColDef {
     pub name: Name,
     pub kind: Kind,
-    /// Whether it is PRIMARY KEY.
+    /// Whether the column is declared PRIMARY KEY.
     pub key: bool,
 }
 

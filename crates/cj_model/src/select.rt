@@ -18,7 +18,7 @@ pub enum Item {
 
 pub type ItemList = ListOf<Item>;
 
-/// What an answer's rows have.
+/// What each row of an answer has: all columns, or the listed items.
 #[derive(Drop)]
 pub enum Items {
     /// `*`: each column of each table.

@@ -30,7 +30,7 @@ impl Model for TableSet {
     ghost invariant = { λ set. Rises name_cmp set.names };
 }
 
-/// In front of which place a name is put among rising ones; none where it is one of them.
+/// The index before which a name is inserted among rising names; `None` if it is one of them.
 fn gap_for(names: &[Name], name: &Name) -> Option<usize>
     ensures { IsGap name_cmp names.now name.now result }
 {
@@ -55,7 +55,7 @@ fn put_name(names: &mut ListOf<Name>, name: &Name) -> Result<(), NoMemory>
 }
 
 impl TableSet {
-    /// The empty set, which takes no memory.
+    /// An empty set; allocates nothing.
     pub fn new(alloc: Global) -> TableSet
         ensures { result ≡ [] }
     {
@@ -64,7 +64,7 @@ impl TableSet {
         }
     }
 
-    /// Adds a table; want of memory leaves the set as it was.
+    /// Adds a table to the set. Out of memory leaves the set as it was.
     pub fn insert(&mut self, name: &Name) -> Result<(), NoMemory>
         ensures ok { OnOk result (self.new ≡ put_by name_cmp self.old name.now) }
         ensures err { OnErr result (self.new ≡ self.old) }
@@ -72,13 +72,14 @@ impl TableSet {
         put_name(&mut self.names, name)
     }
 
+    /// Whether the set has the table.
     pub fn contains(&self, name: &Name) -> bool
         ensures { result ≡ list_any (λ table. bytes_eq table name.now) self.now }
     {
         self.names.as_slice().iter().any(|table| table.is(name))
     }
 
-    /// The names, in rising order.
+    /// The names of the set's tables, in rising order.
     pub fn as_slice(&self) -> &[Name]
         ensures names { result.now ≡ self.now }
         ensures rises { Rises name_cmp self.now }
@@ -86,6 +87,7 @@ impl TableSet {
         self.names.as_slice()
     }
 
+    /// How many tables the set has.
     pub fn len(&self) -> usize
         ensures { result ≡ length self.now }
     {

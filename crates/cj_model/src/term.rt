@@ -12,7 +12,7 @@ pub struct ColRef {
     pub column: Name,
 }
 
-/// What stands for a value.
+/// A term: a literal, a column, or a call of the clock or of random numbers.
 #[derive(Drop)]
 pub enum Term {
     Lit(Value),
@@ -23,7 +23,7 @@ pub enum Term {
     Rand(i64),
 }
 
-/// What a column is set to.
+/// The expression that a column is set to: a term, or the sum or difference of two.
 #[derive(Drop)]
 pub enum Expr {
     One(Term),

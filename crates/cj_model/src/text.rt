@@ -56,7 +56,7 @@ fn is_text(bytes: &[u8]) -> bool
 }
 
 impl Text {
-    /// The bytes as a text; none exactly where they are no text.
+    /// The bytes as a text; `None` exactly where they are no text.
     pub fn of(bytes: Vec<u8>) -> Option<Text>
         ensures { result ≡ text_of bytes.items }
     {
@@ -67,6 +67,7 @@ impl Text {
         }
     }
 
+    /// The bytes of the text.
     pub fn as_slice(&self) -> &[u8]
         ensures value { result.now ≡ self.now }
         ensures text { IsText self.now }
@@ -87,7 +88,7 @@ impl Text {
     }
 }
 
-/// A text behind one pointer, so that what may be a number or a text takes no more than two numbers.
+/// A text in a box, so that a value, which is a number or a text, is no larger than two numbers.
 pub struct BoxedText {
     text: Box<Text>,
 }
@@ -108,6 +109,7 @@ impl Drop for BoxedText {
 }
 
 impl BoxedText {
+    /// Puts the text into a box. If memory runs out, the text is lost.
     pub fn of(alloc: Global, text: Text) -> Result<BoxedText, NoMemory>
         ensures { IfOk result (λ boxed. boxed ≡ text) }
     {

@@ -12,7 +12,7 @@ pub enum Kind {
     Text,
 }
 
-/// A value: 64 bits with a sign, or a text. An integer stands before each text.
+/// A value: a number of 64 bits with a sign, or a text. In order, numbers come before texts.
 #[derive(Drop)]
 pub enum Value {
     Int(i64),
@@ -24,12 +24,14 @@ impl Value {
     ghost use Rattle.cj_model.specs.declared.value.Value.TheVariants as value;
     ghost use Rattle.cj_model.specs.Database.Values.{kind_of};
 
+    /// The text as a value. If memory runs out, the text is lost.
     pub fn of_text(alloc: Global, text: Text) -> Result<Value, NoMemory>
         ensures { IfOk result (λ made. made ≡ value.Text text) }
     {
         Ok(Value::Text(BoxedText::of(alloc, text)?))
     }
 
+    /// Whether the value is an INTEGER or a TEXT.
     pub fn kind(&self) -> Kind
         ensures { result ≡ kind_of self.now }
     {

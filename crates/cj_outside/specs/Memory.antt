@@ -9,13 +9,13 @@ pub record State : Type 0 where
   pub calls : ℕ
   pub faults : ℕ
 
--- the call takes the next number, and fails exactly where that number is listed
+-- the call has the next number, and fails exactly if that number is listed
 pub record FailsAsListed {T E : Type 0} (IsFault : Result T E → Type 0) (old new : State) (result : Result T E) : Type 0 where
   pub list : new.fails ≡ old.fails
   pub number : new.calls ≡ next old.calls
   pub listed : IsFault result ↔ Contains old.fails new.calls
 
--- the same of a call that fails too where it would pass a limit
+-- the call has the next number, and fails exactly if that number is listed or it would pass a limit
 pub record FailsAsListedOr {T E : Type 0} (Passes : Type 0) (IsFault : Result T E → Type 0) (old new : State) (result : Result T E) : Type 0 where
   pub list : new.fails ≡ old.fails
   pub number : new.calls ≡ next old.calls

@@ -7,12 +7,12 @@ use Rattle.cj_outside.specs.Streams.{most}
 
 -- ---- bytes
 
--- the length of a store
+-- the answer is the length of the store
 abbrev pub TellsLength : List ℕ → Result ℕ Failed → Type 0
 TellsLength held (Ok n) = n ≡ length held
 TellsLength held (Err _) = Unit {0}
 
--- the first count bytes of the buffer are the next ones from the offset on; none only where none is left, or none was asked for
+-- the first count bytes of the buffer are those from the offset on; none only if none is left or asked for
 pub record ReadsAt (held : List ℕ) (at : ℕ) (buf : List ℕ) (count : ℕ) : Type 0 where
   pub bytes : drop at held ≡ take count buf ++ drop (at + count) held
   pub some : 0 < length buf → at < length held → 0 < count
@@ -40,7 +40,7 @@ KeepsLimit end (Err errors.NoMemory) = end ≤ most
 
 -- ---- images: the bytes that a stop may leave
 
--- an image is one from before, after this step
+-- an image is one from before, changed by this step
 abbrev pub IsSteppedImage : (List ℕ → List ℕ → Type 0) → (List ℕ → Type 0) → List ℕ → Type 0
 IsSteppedImage step before image = (old : List ℕ) × before old × step old image
 
@@ -52,14 +52,16 @@ Stays old new = new ≡ old
 abbrev pub Only : List ℕ → (List ℕ → Type 0) → Type 0
 Only bytes images = (image : List ℕ) → images image → image ≡ bytes
 
--- Time goes on by a call that takes this step. What a stop may leave now, or may have left since a moment, is what it might have left before, or such an image after the step.
+-- Time goes on by a call that makes this step.
+-- A stop may leave, now or since a moment, what it might have left before, or such an image after the step.
 pub record Steps {D : Type 0} (moment : D → ℕ) (may : D → List ℕ → Type 0) (since : D → ℕ → List ℕ → Type 0) (step : List ℕ → List ℕ → Type 0) (old new : D) : Type 0 where
   pub later : moment old ≤ moment new
   pub images : (image : List ℕ) → may new image → IsSteppedImage step (may old) image
   pub past : (t : ℕ) (image : List ℕ) → t ≤ moment old → since new t image → since old t image ⊎ IsSteppedImage step (may old) image
   pub keeps : (t : ℕ) (image : List ℕ) → t ≤ moment old → since old t image → since new t image
 
--- A stop at any moment since old leaves bytes of which P holds. For a run that began earlier, it leaves what it might have left before, or such bytes.
+-- A stop at any moment since old leaves bytes of which P holds.
+-- Since a moment before old, a stop leaves what it might have left until then, or such bytes.
 pub record LeavesOnly {D : Type 0} (moment : D → ℕ) (since : D → ℕ → List ℕ → Type 0) (old new : D) (P : List ℕ → Type 0) : Type 0 where
   pub later : moment old ≤ moment new
   pub each : (image : List ℕ) → since new (moment old) image → P image

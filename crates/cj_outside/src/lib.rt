@@ -1,8 +1,13 @@
-//! The outside as traits: a `Source` gives bytes, a `Sink` takes them, a `Store` keeps them, a `Clock` tells the time and a `Draw` gives random numbers.
+//! The outside as traits: `Source` and `Sink` for streams, `Store` for files, `Clock`, and `Draw` for random numbers.
 //!
-//! Each source, sink and store may tell the bytes that it has left or holds, and counts its faults: a call answers that it failed only where that count has risen.
-//! On them stand `read_to_end`, `write_all`, `read_store` and `Lines`, which gives a source line by line, and three objects in memory that fail at chosen calls.
-//! A store may also tell what a stop would leave of it. Clocks and draws can't fail.
+//! Contracts see the bytes of an object that tells them, and its count of faults. A call that answers `Failed`
+//! counts one fault, and no other call counts any. A store may also tell what a stop would leave.
+//! Clocks and draws can't fail.
+//! `read_to_end`, `write_all`, `read_store` and `Lines` (a source line by line) work over every such object.
+//! `MemSource`, `MemSink` and `MemStore` are in memory, and fail at chosen calls.
+//! A change usually concerns `lines.rt` or the objects in memory; one of a trait also concerns `cj_edge`.
+//! The definitions are in `specs/Streams`, `specs/Stores` and `specs/Lines`.
+//! Proofs begin in `proofs/Joined` (bytes moved in several steps) and `proofs/Stopped` (what a stop leaves of calls).
 #![tactic(auto)]
 
 mod clock;

@@ -1,7 +1,8 @@
 //! A store in memory, which fails at chosen calls.
 //!
-//! Its calls, of all four kinds together, are numbered from 1, up to 2^64 - 1, where the number stays. A call answers `Failed` exactly where its number is listed or
-//! it would pass the most bytes of a store; it then changes nothing, and counts one fault, up to 2^64 - 1 of them.
+//! Calls of a store, of all four kinds together, are numbered from 1, up to 2^64 - 1, where the number stays.
+//! A call answers `Failed` exactly if its number is listed or it would pass the most bytes of a store.
+//! It then changes nothing, and counts one fault, up to 2^64 - 1 of them.
 
 ghost use Rattle.std.specs.Prelude.{◌≡◌, ◌+◌, ◌-◌, ◌<◌, ◌≤◌, min, true, false, List, ℕ, length, drop, IfOk, OnOk, OnErr, IsErr, IsErrOf};
 ghost use Rattle.std.specs.Io.{ReadsAtMost};
@@ -18,7 +19,7 @@ use crate::streams::MOST;
 use std::alloc::AllocError;
 use std::marker::Model;
 
-/// Writes over the bytes from `at` on, and past the last of them. Want of memory leaves them.
+/// Writes over the bytes from `at` on, and past the last of them. Out of memory leaves all as they were.
 fn overwrite(content: &mut Vec<u8>, at: usize, bytes: &[u8]) -> Result<(), AllocError>
     requires { at ≤ length content.old.items }
     ensures ok { OnOk result (content.new.items ≡ overwritten content.old.items at bytes.now) }
@@ -50,7 +51,7 @@ impl Model for MemStore {
 }
 
 impl MemStore {
-    /// A store of `content`, whose calls with the numbers in `fails` fail. It grows in the memory of `content`.
+    /// A store of `content`, whose calls with the numbers in `fails` fail. The vector of `content` grows with it.
     pub fn new(content: Vec<u8>, fails: Vec<u64>) -> Self
         ensures { result ≡ record { bytes = content.items; fails = fails.items; calls = 0; faults = 0 } }
     {
@@ -60,7 +61,7 @@ impl MemStore {
         }
     }
 
-    /// The bytes that it holds.
+    /// The bytes that the store holds.
     pub fn content(&self) -> &[u8]
         ensures { result.now ≡ self.now.bytes }
     {
@@ -89,7 +90,7 @@ impl Store for MemStore {
 
     ghost only_now = { λ s image left. left };
 
-    /// Tells the length, or fails where the call is listed.
+    /// Tells the length in bytes. Fails if the call is listed.
     fn len(&mut self) -> Result<u64, Failed>
         ensures limit { IfOk result (λ n. n ≤ most) }
         ensures count { true ≡ true → TellsLength self.old.bytes result }
@@ -106,7 +107,7 @@ impl Store for MemStore {
         Ok(len)
     }
 
-    /// Reads as many bytes as are left and fit, or fails where the call is listed.
+    /// Reads as many bytes from `at` on as there are and fit into `buf`. Fails if the call is listed.
     fn read_at(&mut self, at: u64, buf: &mut [u8]) -> Result<usize, Failed>
         ensures bound { ReadsAtMost result buf.new }
         ensures read { true ≡ true → IfOk result (λ count. ReadsAt self.old.bytes at buf.new count) }
@@ -123,7 +124,8 @@ impl Store for MemStore {
         Ok(fill(buf, &self.content, (at as usize).min(self.content.len())))
     }
 
-    /// Writes the bytes, or fails where the call is listed or passes the most bytes, or wants memory. A refusal changes nothing.
+    /// Writes the bytes from `at` on. Fails if the call is listed or passes `MOST` bytes; may run out of memory.
+    /// A refused write changes no byte.
     fn write_at(&mut self, at: u64, bytes: &[u8]) -> Result<(), OutError>
         requires { true ≡ true → at ≤ length self.old.bytes }
         ensures limit { KeepsLimit (at + length bytes.now) result }
@@ -144,7 +146,7 @@ impl Store for MemStore {
         }
     }
 
-    /// Does nothing, or fails where the call is listed.
+    /// Does nothing, since memory has no disk. Fails if the call is listed.
     fn sync(&mut self) -> Result<(), Failed>
         ensures bytes { true ≡ true → self.new.bytes ≡ self.old.bytes }
         ensures cause { CountsFault (IsErr result) self.old.faults self.new.faults }

@@ -1,7 +1,7 @@
 //! A source and a sink in memory, which fail at chosen calls.
 //!
-//! Calls of `take` and of `put` are numbered from 1, up to 2^64 - 1, where the number stays. A call answers `Failed` exactly
-//! where its number is listed; it then moves no byte, and counts one fault, up to 2^64 - 1 of them.
+//! Calls of `take` and of `put` are numbered from 1, up to 2^64 - 1, where the number stays. A call answers `Failed`
+//! exactly if its number is listed. It then moves no byte, and counts one fault, up to 2^64 - 1 of them.
 
 ghost use Rattle.std.specs.Prelude.{◌≡◌, ◌↔◌, ◌⊎◌, ◌≤◌, ◌+◌, ◌++◌, min, Some, IfOk, IsErr, IsErrOf, IsTrue, Contains, take, drop, length};
 ghost use Rattle.std.specs.Io.{ReadsAtMost, WritesAtMost};
@@ -35,7 +35,7 @@ impl Schedule {
         }
     }
 
-    /// Numbers the next call and answers whether it fails, which it counts.
+    /// Numbers the next call and answers whether it fails. A failure is counted.
     pub(crate) fn fails_next(&mut self) -> bool
         ensures list { self.new.fails ≡ self.old.fails }
         ensures number { self.new.calls ≡ next self.old.calls }
@@ -45,7 +45,7 @@ impl Schedule {
         self.fails_next_or(false)
     }
 
-    /// The same of a call that fails too where it `passes` a limit.
+    /// Numbers the next call and answers whether it fails: listed, or as it `passes` a limit. A failure is counted.
     pub(crate) fn fails_next_or(&mut self, passes: bool) -> bool
         ensures list { self.new.fails ≡ self.old.fails }
         ensures number { self.new.calls ≡ next self.old.calls }
@@ -110,7 +110,7 @@ impl Source for MemSource {
 
     ghost faults = { λ s. s.faults };
 
-    /// Takes as many bytes as are left and fit, or fails where the call is listed.
+    /// Takes as many bytes as are left and fit into `buf`. Fails if the call is listed.
     fn take(&mut self, buf: &mut [u8]) -> Result<usize, Failed>
         ensures bound { ReadsAtMost result buf.new }
         ensures bytes { ReadConsumes (Some self.old.bytes) (Some self.new.bytes) result buf.new }
@@ -145,7 +145,7 @@ impl Model for MemSink {
 }
 
 impl MemSink {
-    /// A sink that holds `content`, and whose calls with the numbers in `fails` fail. It grows in the memory of `content`.
+    /// A sink that holds `content`, whose calls with the numbers in `fails` fail. The vector `content` grows with it.
     pub fn new(content: Vec<u8>, fails: Vec<u64>) -> Self
         ensures { result ≡ record { bytes = content.items; fails = fails.items; calls = 0; faults = 0 } }
     {
@@ -155,7 +155,7 @@ impl MemSink {
         }
     }
 
-    /// The bytes that it was made with, and then all that it has taken.
+    /// The bytes that the sink was made with, and then all that it has taken.
     pub fn content(&self) -> &[u8]
         ensures { result.now ≡ self.now.bytes }
     {
@@ -168,7 +168,7 @@ impl Sink for MemSink {
 
     ghost faults = { λ s. s.faults };
 
-    /// Appends the whole piece, or fails where the call is listed, or wants memory.
+    /// Appends the whole piece. Fails if the call is listed; may run out of memory. Refused, it appends nothing.
     fn put(&mut self, piece: &[u8]) -> Result<usize, OutError>
         ensures bound { WritesAtMost result piece.now }
         ensures some { TakesSome piece.now result }

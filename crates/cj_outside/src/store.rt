@@ -1,4 +1,4 @@
-//! Bytes that are read and written at any place.
+//! Bytes that are read and written at any offset.
 
 ghost use Rattle.std.specs.Prelude.{◌≡◌, ◌↔◌, ◌+◌, ◌<◌, ◌≤◌, ℕ, Bool, true, List, length, IfOk, OnOk, IsErr, IsErrOf, IsTrue};
 ghost use Rattle.std.specs.Io.{ReadsAtMost};
@@ -12,22 +12,22 @@ use crate::streams::{MOST, PIECE};
 use std::alloc::{AllocError, Global};
 use thiserror::Error;
 
-/// An object that keeps bytes, at most `MOST` of them, which are read and written at any place.
+/// An object that keeps bytes, at most `MOST` of them, which are read and written at any offset.
 ///
-/// On `Failed` the count of faults rises by one; else it stays. What a write does may be lost in a stop until a sync after it was carried out.
+/// `Failed` counts one fault, and no other result does. A stop may lose a write, until a `sync` after it succeeded.
 pub trait Store {
     ghost use Rattle.cj_outside.specs.Stores.{TellsLength, ReadsAt, Writes, KeepsLimit, Torn, Only};
 
-    /// Whether it tells the bytes that it holds.
+    /// Whether contracts see the bytes that the store holds.
     ghost tells: { Bool };
 
-    /// Whether it tells what a stop may leave of them.
+    /// Whether contracts see which bytes a stop may leave.
     ghost has_disk: { Bool };
 
-    /// The bytes that it holds, where it tells them.
+    /// The bytes that the store holds, if it tells them.
     ghost held: { Self → List ℕ };
 
-    /// How many faults it has counted; a count that stands at its type's end stays there.
+    /// How many faults the store has counted, up to 2^64 - 1.
     ghost faults: { Self → ℕ };
 
     /// The moment, as a number that doesn't fall.
@@ -36,10 +36,10 @@ pub trait Store {
     /// The images that a stop at this moment may leave. A store without a disk gives none.
     ghost may: { Self → List ℕ → Type 0 };
 
-    /// The images that a stop at some moment, from that one to this, may have left.
+    /// The images that a stop at some moment may have left, from the given moment to this one.
     ghost since: { Self → ℕ → List ℕ → Type 0 };
 
-    /// How many bytes it has.
+    /// How many bytes the store has, at most `MOST`.
     fn len(&mut self) -> Result<u64, Failed>
         ensures limit { IfOk result (λ n. n ≤ most) }
         ensures count { tells ≡ true → TellsLength (held self.old) result }
@@ -49,7 +49,7 @@ pub trait Store {
 
     /// Reads bytes from `at` on into the front of `buf` and answers how many, at most `buf.len()`.
     ///
-    /// 0 with room in `buf` is the end, and comes exactly where no byte stands at `at`, if the object tells.
+    /// 0 with room in `buf` is the end. If the store tells its bytes, 0 comes exactly if it has none at `at`.
     fn read_at(&mut self, at: u64, buf: &mut [u8]) -> Result<usize, Failed>
         ensures bound { ReadsAtMost result buf.new }
         ensures read { tells ≡ true → IfOk result (λ count. ReadsAt (held self.old) at buf.new count) }
@@ -59,8 +59,9 @@ pub trait Store {
 
     /// Writes over the bytes from `at` on, and past the last of them.
     ///
-    /// After a refusal those in the range may be any; the others are as they were. `NoMemory` comes only where the range passes the last byte, of an object that
-    /// tells. A range that passes `MOST` is `Failed`.
+    /// `at` is at most the length. A range that passes `MOST` is `Failed`. `NoMemory` comes only from a store that
+    /// tells its bytes, and only for a range past the last one. After a refusal the bytes in the range may be any,
+    /// and the others are unchanged.
     fn write_at(&mut self, at: u64, bytes: &[u8]) -> Result<(), OutError>
         requires { tells ≡ true → at ≤ length (held self.old) }
         ensures limit { KeepsLimit (at + length bytes.now) result }
@@ -69,24 +70,24 @@ pub trait Store {
         ensures cause { CountsFault (IsErrOf result OutError.Failed) (faults self.old) (faults self.new) }
         ensures disk { Steps moment may since (Torn at (length bytes.now)) self.old self.new };
 
-    /// Makes what was written safe: a stop afterwards leaves it.
+    /// Makes what was written safe: after a success, a stop leaves the bytes as they are.
     fn sync(&mut self) -> Result<(), Failed>
         ensures bytes { tells ≡ true → held self.new ≡ held self.old }
         ensures cause { CountsFault (IsErr result) (faults self.old) (faults self.new) }
         ensures disk { Steps moment may since Stays self.old self.new }
         ensures safe { OnOk result (Only (held self.new) (may self.new)) };
 
-    /// The bytes as they are may be left.
+    /// A stop may leave the bytes as they are.
     ghost stands: { (store : Self) → has_disk ≡ true → may store (held store) };
 
-    /// This moment is one of those since an earlier one.
+    /// What a stop may leave now, it may have left since any earlier moment.
     ghost counts_now: { (store : Self) (t : ℕ) (image : List ℕ) → t ≤ moment store → may store image → since store t image };
 
-    /// Since this moment there is no other.
+    /// What a stop may have left since this moment, it may leave now.
     ghost only_now: { (store : Self) (image : List ℕ) → since store (moment store) image → may store image };
 }
 
-/// Whether so many bytes from `at` on reach past the most bytes of a store.
+/// Whether `len` bytes from `at` on reach past `MOST`, the most bytes of a store.
 pub fn is_past_most(at: u64, len: usize) -> bool
     ensures { IsTrue result ↔ (most < at + len) }
 {
@@ -124,10 +125,10 @@ impl From<AllocError> for StoreReadError {
     }
 }
 
-/// Reads the bytes of the store, from the first one on, in pieces of at most 4096, and answers all of them.
+/// Reads all bytes of the store, in pieces of at most 4096, and answers them.
 ///
-/// It asks for the length first, and reads no more than that many bytes. A store that doesn't tell may come to its end sooner: the bytes up to there are answered.
-/// On an error those that were read are lost.
+/// The length is asked first, and no more than that is read. A store that doesn't tell its bytes may end sooner:
+/// then the bytes up to there are answered. On an error the bytes that were read are lost.
 pub fn read_store<S: Store>(alloc: Global, store: &mut S) -> Result<Vec<u8>, StoreReadError>
     ensures whole { S.tells ≡ true → IfOk result (λ bytes. bytes.items ≡ S.held store.old) }
     ensures limit { IfOk result (λ bytes. length bytes.items ≤ most) }

@@ -1,4 +1,4 @@
-//! Where the records of a store stand.
+//! Where the records of a store are.
 
 ghost use Rattle.std.specs.Prelude.{◌≡◌, ◌+◌, ◌<◌, ◌≤◌, [], true, length, take, drop, IfOk, OnOk, IsErr, IsErrOf};
 ghost use Rattle.cj_outside.specs.Causes.{CountsFault};
@@ -16,20 +16,20 @@ use crate::window::Window;
 use cj_outside::{OutError, Store};
 use std::alloc::Global;
 
-/// A new file of at most so many bytes has no record.
+/// A file of at most so many bytes is new, and has no record.
 const NEW: u64 = 5;
 
-/// The bytes of a gate and a length.
+/// The size of a gate and a length, in bytes.
 const HEADER: usize = 9;
 
-/// Where the records of a store stand, and the gate behind them.
+/// Where the records of a store are, and the offset of the gate after them.
 #[derive(Drop)]
 pub struct Index {
     pub places: Vec<Place>,
     pub end: u64,
 }
 
-/// Finds the records behind the magic, in a store of `size` bytes.
+/// Finds the records after the magic, in a store of `size` bytes.
 fn walk<S: Store>(
     alloc: Global,
     store: &mut S,
@@ -75,7 +75,9 @@ fn begin<S: Store>(store: &mut S, magic: &[u8; 4]) -> Result<(), OutError>
     write_synced(store, 0, &[magic[0], magic[1], magic[2], magic[3], 0])
 }
 
-/// Finds the records of a store, which is begun where it is new. The window shows nothing at first.
+/// Finds the records of a store. A new store, of at most five bytes, gets the bytes of a file without records.
+///
+/// The window must show nothing before. `BadRecord` has the offset at which the bytes are no record file.
 pub fn read_index<S: Store>(
     alloc: Global,
     store: &mut S,

@@ -29,7 +29,7 @@ pub fn fill<S: Store>(store: &mut S, at: u64, buf: &mut [u8]) -> Result<usize, F
     Ok(count)
 }
 
-/// Writes the bytes from `at` on, and makes them safe.
+/// Writes the bytes from `at` on and makes them safe. After an error the bytes in the range may be any.
 pub fn write_synced<S: Store>(store: &mut S, at: u64, bytes: &[u8]) -> Result<(), OutError>
     requires { S.tells ≡ true → at ≤ length (S.held store.old) }
     ensures limit { KeepsLimit (at + length bytes.now) result }
@@ -46,7 +46,7 @@ pub fn write_synced<S: Store>(store: &mut S, at: u64, bytes: &[u8]) -> Result<()
     }
 }
 
-/// Closes the gate at `end` where it is `torn`, which means that it may stand open.
+/// Closes the gate at `end` if it is `torn`, which means that it may be open. After an error it may still be open.
 pub fn shut_gate<S: Store>(store: &mut S, end: u64, torn: &mut bool) -> Result<(), OutError>
     requires limit { end ≤ most }
     requires gate { S.tells ≡ true → end < length (S.held store.old) }
@@ -66,8 +66,8 @@ pub fn shut_gate<S: Store>(store: &mut S, end: u64, torn: &mut bool) -> Result<(
     Ok(())
 }
 
-/// Writes a record at the closed gate at `end`: the `tail` of it behind the gate, and then the open
-/// gate. While that is written the gate is `torn`.
+/// Writes a record at the closed gate at `end`: first its `tail` after the gate, and then the gate, open.
+/// While the gate is written it is `torn`. After an error the gate is open only if it is `torn`.
 pub fn write_record<S: Store>(
     store: &mut S,
     end: u64,

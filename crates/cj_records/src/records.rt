@@ -21,19 +21,19 @@ use std::marker::Model;
 
 /// A list of byte strings, kept in a store as a record file.
 ///
-/// Each body stands behind a gate and its length, and behind the last one stands a closed gate. A
-/// body is written whole, and made safe, before its gate is opened.
+/// Each body comes after an open gate and its length, and after the last one comes a closed gate.
+/// A body is written whole, and made safe, before its gate is opened.
 #[derive(Drop)]
 pub struct Records<S: Store> {
     alloc: Global,
     store: S,
     window: Window,
     magic: [u8; 4],
-    /// Where the records stand.
+    /// Where the records are.
     places: Vec<Place>,
-    /// The offset of the gate behind the last of them.
+    /// The offset of the gate after the last record.
     end: u64,
-    /// Whether that gate may stand open, since an append failed while it was opened.
+    /// Whether the gate at `end` may be open, since an append failed while it was opened.
     torn: bool,
 }
 
@@ -49,7 +49,7 @@ impl<S: Store> Model for Records<S> {
     ghost invariant = { λ r. AgreesWithStore S.tells (S.held r.store) r.magic r.places.items r.end r.torn r.window.from r.window.bytes × SurvivesStop S.tells (S.held r.store) (S.may r.store) r.magic r.places.items r.end r.torn };
 }
 
-/// What stands behind the gate of a record: the length of the body, the body, and a closed gate.
+/// The bytes after the gate of a new record: the length of the body, the body, and a closed gate.
 fn tail_of(alloc: Global, body: &[u8]) -> Result<Vec<u8>, AllocError>
     ensures tail { IfOk result (λ tail. tail.items ≡ str64 body.now ++ 0 ∷ []) }
     ensures len { length body.now < 2 ^ 64 }
@@ -61,10 +61,10 @@ fn tail_of(alloc: Global, body: &[u8]) -> Result<Vec<u8>, AllocError>
 }
 
 impl<S: Store> Records<S> {
-    /// Opens the records of a store, which is begun where it is new.
+    /// Opens the records of a store. A new store, of at most five bytes, gets the bytes of a file without records.
     ///
-    /// Refused, it hands the store back, in which nothing was written but the bytes of a new file.
-    /// `BadRecord` comes exactly where the bytes are no record file with this magic.
+    /// An error gives the store back. Only a new one may have been written to, and still has at most five bytes.
+    /// `BadRecord` comes exactly if the bytes are no record file with this magic; it has the offset.
     pub fn open(alloc: Global, store: S, magic: [u8; 4]) -> Result<Records<S>, (RecordsError, S)>
         requires { S.tells ≡ true → Only (S.held store) (S.may store) }
         ensures bytes { S.tells ≡ true → Opens S.held magic (S.held store) result }
@@ -91,8 +91,8 @@ impl<S: Store> Records<S> {
         }
     }
 
-    /// Shows what holds of all records: their bytes are a record file with this list, or with one body
-    /// more where an append was refused while it opened a gate.
+    /// Shows for proofs what holds of all records: the bytes of the store are a record file with this list.
+    /// Where an append was refused while it opened a gate, they may have one body more.
     pub fn legal(&self)
         ensures list { S.tells ≡ true → self.now.torn ≡ false → Finds self.now.magic (S.held self.now.store) (Ok self.now.list) }
         ensures at_least { S.tells ≡ true → KeepsAtLeast self.now (S.held self.now.store) }
@@ -100,8 +100,8 @@ impl<S: Store> Records<S> {
         ensures limit { self.now.end ≤ most }
         ensures safe { S.tells ≡ true → self.now.torn ≡ false → LeavesList (S.may self.now.store) self.now.magic self.now.list }
 
-        // Between two calls a stop leaves this list, whatever is appended next, or it with the body that was
-        // refused.
+        // Between two calls a stop leaves this list, or the list and the body that was refused while a gate
+        // was opened.
         ensures now { S.tells ≡ true → (body : List ℕ) → LeavesOnly S.moment S.since self.now.store self.now.store (IsBeforeOrAfter self.now body) }
     {
         let _ = &self.store;
@@ -114,7 +114,7 @@ impl<S: Store> Records<S> {
         self.places.len() as u64
     }
 
-    /// Reads a body of at most a piece by the window.
+    /// Reads a body of at most `PIECE` bytes by the window.
     fn read_small(&mut self, place: Place) -> Result<Vec<u8>, RecordsError>
         requires piece { place.len ≤ PIECE }
         requires end { end_of place ≤ most }
@@ -132,7 +132,7 @@ impl<S: Store> Records<S> {
         Ok(Vec::from_slice(self.alloc, part)?)
     }
 
-    /// Reads a long body past the window.
+    /// Reads a long body, without the window.
     fn read_large(&mut self, place: Place) -> Result<Vec<u8>, RecordsError>
         requires end { end_of place ≤ most }
         ensures body { S.tells ≡ true → ReadsPart (S.held self.old.store) place result }
@@ -148,9 +148,10 @@ impl<S: Store> Records<S> {
         Ok(body)
     }
 
-    /// The body of record `n`, counted from 0.
+    /// Reads the body of record `n`, counted from 0 and below `count()`.
     ///
-    /// `BadRecord` comes only over a store that tells nothing, where fewer bytes came back.
+    /// An error leaves the records as they were. `BadRecord` comes only of a store that doesn't tell its bytes,
+    /// if it gives fewer than the record has.
     pub fn read(&mut self, n: u64) -> Result<Vec<u8>, RecordsError>
         requires { n < length self.old.list }
         ensures body { S.tells ≡ true → Reads self.old n result }
@@ -166,18 +167,17 @@ impl<S: Store> Records<S> {
         }
     }
 
-    /// Adds a record with this body at the end, and answers the offset of its gate.
+    /// Appends a record with this body, makes it safe, and answers the offset of its gate.
     ///
-    /// Refused, it leaves the list and the offset of the next record. `NoMemory` comes only before
-    /// the gate is opened.
+    /// An error leaves the list, and the offset of the next record, as they were. `NoMemory` comes only before the
+    /// gate is opened. After `Failed` a stop may leave one body more: the refused one.
     pub fn append(&mut self, body: &[u8]) -> Result<u64, RecordsError>
         ensures list { S.tells ≡ true → AppendsRecord self.old body.now self.new result }
         ensures counts { CountsRecords self.old (length body.now) self.new result }
         ensures magic { self.new.magic ≡ self.old.magic }
         ensures cause { CountsFault (IsErrOf result RecordsError.Failed) (S.faults self.old.store) (S.faults self.new.store) }
 
-        // A stop at any moment of the call leaves the list from before it, or one body more; after `Ok` a
-        // stop leaves the new list.
+        // A stop at any moment of the call leaves the old list, or one body more. After `Ok` it leaves the new list.
         ensures any_moment { S.tells ≡ true → LeavesOnly S.moment S.since self.old.store self.new.store (IsBeforeOrAfter self.old body.now) }
         ensures safe { S.tells ≡ true → OnOk result (LeavesList (S.may self.new.store) self.new.magic self.new.list) }
         ensures refused { S.tells ≡ true → Refuses self.old body.now self.new result }
@@ -194,7 +194,7 @@ impl<S: Store> Records<S> {
         Ok(at)
     }
 
-    /// The store, as it is.
+    /// Gives the store back, as it is.
     pub fn into_store(self) -> S
         ensures { result ≡ self.store }
     {

@@ -11,10 +11,10 @@ use cj_outside::{Failed, Store};
 use std::alloc::{AllocError, Global};
 use std::marker::Model;
 
-/// The most bytes that a window shows, which are read at a call.
+/// The most bytes that a window shows, and that are read at a call.
 pub const PIECE: usize = 65_536;
 
-/// A window on a store.
+/// A window on a store: a buffer that shows up to `PIECE` of its bytes from some offset on.
 #[derive(Drop)]
 pub struct Window {
     piece: Vec<u8>,
@@ -35,7 +35,7 @@ impl Model for Window {
 }
 
 impl Window {
-    /// A window that shows nothing.
+    /// Allocates a window that shows nothing.
     pub fn new(alloc: Global) -> Result<Window, AllocError>
         ensures { IfOk result (λ window. window.bytes ≡ []) }
     {
@@ -46,14 +46,14 @@ impl Window {
         })
     }
 
-    /// Shows nothing any more.
+    /// Makes the window show nothing.
     pub fn shut(&mut self)
         ensures { self.new.bytes ≡ [] }
     {
         self.count = 0;
     }
 
-    /// Shows the bytes from `at` on.
+    /// Reads `PIECE` bytes from `at` on, or as many as there are, to be shown.
     fn load<S: Store>(&mut self, store: &mut S, at: u64) -> Result<(), Failed>
         requires { at ≤ most }
         ensures from { self.new.from ≡ at }
@@ -69,7 +69,7 @@ impl Window {
         Ok(())
     }
 
-    /// Whether it shows `n` bytes from `at` on.
+    /// Whether the window shows `n` bytes from `at` on.
     fn covers(&self, at: u64, n: usize) -> bool
         requires at { at ≤ most }
         requires n { n ≤ PIECE }
@@ -78,7 +78,7 @@ impl Window {
         self.from <= at && at + n as u64 <= self.from + self.count as u64
     }
 
-    /// Shows `n` bytes from `at` on, or as many as there are.
+    /// Makes the window show `n` bytes from `at` on, or as many as there are; reads the store only if it must.
     pub fn show<S: Store>(&mut self, store: &mut S, at: u64, n: usize) -> Result<(), Failed>
         requires at { at ≤ most }
         requires n { n ≤ PIECE }
@@ -96,7 +96,7 @@ impl Window {
         self.load(store, at)
     }
 
-    /// The bytes from `at` on, at most `n`, as far as it shows them.
+    /// The bytes from `at` on, at most `n`, as far as the window shows them.
     pub fn part(&self, at: u64, n: usize) -> &[u8]
         requires { self.now.from ≤ at }
         ensures { result.now ≡ take n (drop (at - self.now.from) self.now.bytes) }

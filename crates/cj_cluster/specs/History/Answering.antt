@@ -22,7 +22,7 @@ CanServe p h r b = (is_enabled h b ≡ true) × (hosts_all p b (needs r) ≡ tru
 abbrev pub HasServer : Placement → List Event → Request → Type 0
 HasServer p h r = needs_backend r ≡ true → (b : ℕ) × CanServe p h r b
 
--- it needs a backend, and none serves it
+-- the request needs a backend, and none serves it
 abbrev pub HasNoServer : Placement → List Event → Request → Type 0
 HasNoServer p h r = (needs_backend r ≡ true) × ((b : ℕ) → is_enabled h b ≡ true → hosts_all p b (needs r) ≡ false)
 
@@ -30,7 +30,8 @@ HasNoServer p h r = (needs_backend r ≡ true) × ((b : ℕ) → is_enabled h b 
 abbrev pub IsTarget : Placement → List Event → Entry → ℕ → Type 0
 IsTarget p then e b = (is_enabled then b ≡ true) × (concerns p b (log then) e.tx e.act ≡ true)
 
--- Entry i has no target, or one that is in neither mask of its end: the reply is its outcome, and that of the one database where the backends tell what they hold.
+-- Entry i has no target, or one in neither mask of its end: the reply is its outcome.
+-- If the backends tell what they hold, that is the outcome on the one database.
 pub record Finished (tells : Bool) (p : Placement) (then h : List Event) (i : ℕ) (e : Entry) (reply : Reply) : Type 0 where
   pub failed : ℕ
   pub starved : ℕ

@@ -1,4 +1,4 @@
--- Histories: the events so far, oldest first, and what follows from them. Entries are counted from 0 here; entry i is number i + 1 to the outside.
+-- Histories: the events so far, oldest first, and what follows from them. Entry i, counted from 0, has number i + 1.
 use Rattle.std.specs.Prelude.{ℕ, ◌+◌, ◌-◌, ◌*◌, Bool, true, false, not, ◌&&◌, ◌||◌, ◌==◌, List, [], length, take, fold, count_by, slice_get, if◌then◌else◌}
 use Rattle.std.specs.declared.option.Option.{Option}
 use Rattle.std.specs.declared.option.Option.TheVariants.{None, Some}
@@ -25,7 +25,7 @@ database_of log = fold (λ db e. (step db e).db) [] log
 abbrev pub database_after : List Entry → ℕ → List Slot
 database_after log n = database_of (take n log)
 
--- what entry i comes to on the database after those before it
+-- the outcome of entry i on the database after the entries before it
 abbrev pub outcome_of : List Entry → ℕ → Option Outcome
 outcome_of log i = option_map (λ e. (step (database_after log i) e).outcome) (slice_get log i)
 
@@ -91,7 +91,7 @@ masks_of_end (Disabled b) = None
 masks_of_end (Enabled b) = None
 masks_of_end (Marker name b) = None
 
--- the masks of the ends, in order: those of entry i stand at i
+-- the masks of the ends, in order: those of entry i have index i
 abbrev pub masks_of_ends : List Event → List (ℕ × ℕ)
 masks_of_ends h = filter_map masks_of_end h
 
@@ -118,7 +118,7 @@ is_log_fault s q (Disabled b) = false
 is_log_fault s q (Enabled b) = false
 is_log_fault s q (Marker name b) = false
 
--- how often it failed so
+-- how often the log's store failed in the request of session s that has number q
 abbrev pub log_faults_of : ℕ → ℕ → List Event → ℕ
 log_faults_of s q h = count_by (is_log_fault s q) h
 

@@ -21,14 +21,14 @@ FitsTx t tx (act.Drop table) = tx ≡ 0
 FitsTx t tx act.Commit = (tx ≢ 0) × (tx ≡ t)
 FitsTx t tx act.Abort = (tx ≢ 0) × (tx ≡ t)
 
--- a session's next entry
+-- an entry that a session may have next: its request number is new, and its transaction fits
 pub record IsSessionEntry (before : List Entry) (e : Entry) : Type 0 where
   pub session : (0 < e.session) × (e.session ≤ SESSION_NUMBER_LIMIT)
   pub limit : e.seq ≤ REQUEST_LIMIT
   pub newer : All (λ (d : Entry). d.session ≡ e.session → d.seq < e.seq) before
   pub tx : FitsTx (tx_of before e.session) e.tx e.act
 
--- the administrator's end of a transaction that is open
+-- an administrator's entry that ends an open transaction
 pub record IsAdministratorEntry (before : List Entry) (e : Entry) : Type 0 where
   pub session : e.session ≡ 0
   pub seq : e.seq ≡ 0
@@ -40,7 +40,7 @@ pub record IsAdministratorEntry (before : List Entry) (e : Entry) : Type 0 where
   pub is_open : tx_of before begin.session ≡ e.tx
   pub user : e.user ≡ begin.user
 
--- what may be scheduled behind the entries before it
+-- an entry that may be scheduled after the entries before it
 pub record IsFitEntry (before : List Entry) (e : Entry) : Type 0 where
   pub written : IsWritten (request_of e.act)
   pub user : length e.user ≤ USER_LIMIT

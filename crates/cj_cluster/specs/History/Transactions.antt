@@ -11,12 +11,12 @@ use Rattle.cj_model.specs.Database.Steps.{table_written}
 
 -- ---- fit entries
 
--- each of the further entries is fit behind all that stand before it
+-- each of the further entries may be scheduled after all entries before it
 abbrev pub AreFitBehind : List Entry → List Entry → Type 0
 AreFitBehind before [] = Unit {0}
 AreFitBehind before (e ∷ rest) = IsFitEntry before e × AreFitBehind (before ++ e ∷ []) rest
 
--- each entry is fit behind those before it
+-- each entry may be scheduled after those before it
 abbrev pub AreFit : List Entry → Type 0
 AreFit log = AreFitBehind [] log
 
@@ -60,7 +60,8 @@ has_written table tx log = list_any (λ (e : Entry). e.tx == tx && is_write_of t
 abbrev pub has_begun : List ℕ → ℕ → Bool
 has_begun begun tx = list_any (λ t. t == tx) begun
 
--- Whether backend b, which has begun these transactions, takes part in an act: it hosts the table, or has begun the transaction that ends.
+-- Whether backend b, which has begun these transactions, takes part in an act:
+-- it hosts the table, or has begun the transaction that ends.
 abbrev pub takes_part : Placement → ℕ → List ℕ → ℕ → Act → Bool
 takes_part p b begun tx act.Begin = false
 takes_part p b begun tx (act.Write w) = hosts p b (table_written w)
@@ -69,7 +70,8 @@ takes_part p b begun tx (act.Drop table) = hosts p b table
 takes_part p b begun tx act.Commit = has_begun begun tx
 takes_part p b begun tx act.Abort = has_begun begun tx
 
--- The transactions that the backend has begun after an act that it takes part in: a transaction begins with its first write there, and is no longer one of them once it ended.
+-- The transactions that the backend has begun after an act that it takes part in:
+-- a transaction begins with its first write there, and goes with its end.
 abbrev pub begun_after : List ℕ → ℕ → Act → List ℕ
 begun_after begun tx act.Begin = begun
 begun_after begun tx (act.Write w) = if tx == 0 || has_begun begun tx then begun else begun ++ tx ∷ []

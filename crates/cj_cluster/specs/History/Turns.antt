@@ -1,4 +1,5 @@
--- Turns: what one request of a session may be answered, from the history that it has seen to the one that it sees then. `tells`: the backends tell what they hold; only what is answered of it hangs on that.
+-- Turns: what one request of a session may be answered, from the history that it has seen to the one it sees then.
+-- `tells`: the backends tell what they hold; only clauses on what is answered of it depend on that.
 use Rattle.std.specs.Prelude.{◌≡◌, ◌≢◌, ◌⊎◌, ℕ, ◌+◌, ◌<◌, ◌≤◌, Bool, true, ◌==◌, List, [], ◌∷◌, length, take, count_by, slice_get}
 use Rattle.std.specs.declared.option.Option.{Option}
 use Rattle.std.specs.declared.option.Option.TheVariants.{None, Some}
@@ -39,7 +40,7 @@ pub record Call : Type 0 where
   pub request : Request
   pub reply : Reply
 
--- a number of events from F to G
+-- m is the length of a history from F to G, which begins G
 pub record IsMomentBetween (F G : List Event) (m : ℕ) : Type 0 where
   pub low : length F ≤ m
   pub high : m ≤ length G
@@ -124,7 +125,7 @@ pub record FullTurn (p : Placement) (a : SessionView) (c : Call) (z : SessionVie
   pub replied : c.reply ≡ Refused (record { code = HISTORY_FULL; a = m; b = 0 })
   pub least : z.least ≡ a.least
 
--- want of memory, before anything was scheduled
+-- the controller ran out of memory, before anything was scheduled
 pub record StarvedTurn (a : SessionView) (c : Call) (z : SessionView) : Type 0 where
   pub replied : c.reply ≡ Refused (refusal_of_code NO_MEMORY)
   pub least : z.least ≡ a.least
@@ -154,7 +155,7 @@ entries_in (log_fault x) = 0
 entries_in (full x) = 0
 entries_in (starved x) = 0
 
--- the transaction that a session is in after its entry n, where it was in tx before: BEGIN opens one with the entry's number, and COMMIT and ROLLBACK end it
+-- the transaction that a session is in after its entry n, from tx before: BEGIN opens n, COMMIT and ROLLBACK end it
 abbrev pub tx_after_entry : ℕ → ℕ → Act → ℕ
 tx_after_entry n tx act.Begin = n
 tx_after_entry n tx (act.Write w) = tx
@@ -163,7 +164,7 @@ tx_after_entry n tx (act.Drop table) = tx
 tx_after_entry n tx act.Commit = 0
 tx_after_entry n tx act.Abort = 0
 
--- the transaction that the session is in after the case, where it was in tx before: what schedules nothing leaves it
+-- the transaction that the session is in after the case, from tx before: what schedules nothing leaves it
 abbrev pub tx_after_turn : {tells : Bool} {p : Placement} {s : ℕ} {a : SessionView} {c : Call} {z : SessionView} → ℕ → TurnCase tells p s a c z → ℕ
 tx_after_turn {z = z} tx (scheduled x) = tx_after_entry (length (log (take x.m z.front)) + 1) tx x.act
 tx_after_turn tx (no_backend x) = tx
@@ -194,7 +195,7 @@ pub record Turn (tells : Bool) (p : Placement) (s : ℕ) (a : SessionView) (c : 
   pub tx_after : tx_of (log z.front) s ≡ tx_after_turn (tx_of (log a.front) s) case
   pub log_faults : log_faults_of s c.number z.front ≡ log_faults_of s c.number a.front + log_faults_in case
 
--- a chain of turns, each from where the last one led; `seen` is what the session has seen after each
+-- a chain of turns, each from what the session had seen after the last; `seen` has what it has seen after each
 abbrev pub Chain : Bool → Placement → ℕ → SessionView → List Call → List SessionView → Type 0
 Chain tells p s a [] [] = Unit {0}
 Chain tells p s a (c ∷ cs) (z ∷ zs) = Turn tells p s a c z × Chain tells p s z cs zs

@@ -13,11 +13,11 @@ use Rattle.cj_model.specs.Cluster.Placements.{Hosting, Placement, hosts}
 pub record Core : Type 0 where
   pub placement : Placement
   pub history : List Event
-  -- of each backend: how many entries it has taken, or none where it is out
+  -- the position of each backend: how many entries it has applied or skipped; none if it is out
   pub positions : List (Option ℕ)
-  -- and the transactions that it has begun and not ended; none where it is out
+  -- the transactions that each backend has begun and not ended; none if it is out
   pub begun : List (List ℕ)
-  -- while an entry is open: the backends that failed in it, and those that wanted memory
+  -- while an entry is open: the mask of the backends that failed in it, and of those that ran out of memory
   pub failed : ℕ
   pub starved : ℕ
   pub sessions : List OpenSession
@@ -56,7 +56,7 @@ find_session sessions s = find (λ (x : OpenSession). x.number == s) sessions
 abbrev pub new_session : ℕ → List ℕ → OpenSession
 new_session n user = record { number = n; user = user; requests = 0; least = 0; reading = None }
 
--- the session with this number, where it is open
+-- the open session with this number
 abbrev pub session_at : Core → ℕ → OpenSession
 session_at c s = unwrap (find_session c.sessions s)
   where
@@ -64,7 +64,7 @@ session_at c s = unwrap (find_session c.sessions s)
     unwrap None = new_session s []
     unwrap (Some x) = x
 
--- each session is as before, but that the one of this number is changed
+-- the sessions with the one of this number changed
 abbrev pub with_session : List OpenSession → ℕ → (OpenSession → OpenSession) → List OpenSession
 with_session sessions s f = map (λ (x : OpenSession). if x.number == s then f x else x) sessions
 

@@ -53,14 +53,14 @@ reason_if false r v otherwise = otherwise
 abbrev pub is_open : Core → ℕ → Bool
 is_open c s = is_some (find_session c.sessions s)
 
--- the session's own entry is open
+-- whether the session's own entry is open
 abbrev pub is_waiting : Core → ℕ → Bool
 is_waiting c s = is_entry_of s (open_entry_of c.history)
 
 abbrev pub is_reading : OpenSession → Bool
 is_reading x = is_some x.reading
 
--- the number of the last entry, which is the open one where one is
+-- the number of the last entry, which is the open one if there is one
 abbrev pub last_number : Core → ℕ
 last_number c = length (log c.history)
 
@@ -69,7 +69,7 @@ abbrev pub position_or_zero : Option ℕ → ℕ
 position_or_zero None = 0
 position_or_zero (Some p) = p
 
--- the position of the first enabled backend, of those from b on, that is neither at the log's end nor out
+-- the position of the first enabled backend from b on that is neither at the log's end nor out
 abbrev pub first_lagging : List Event → ℕ → List (Option ℕ) → Option ℕ
 first_lagging h b [] = None
 first_lagging h b (None ∷ ps) = first_lagging h (b + 1) ps
@@ -79,7 +79,7 @@ abbrev pub reason_if_lagging : Option ℕ → Option Why
 reason_if_lagging None = None
 reason_if_lagging (Some p) = Some (record { reason = reason.Behind; value = p })
 
--- no dump has the name, or what keeps that dump from being loaded
+-- why a dump can't be loaded: no dump has the name, or the reason for this one
 abbrev pub reason_of_dump : Option TakenDump → (TakenDump → Option Why) → Option Why
 reason_of_dump None otherwise = Some (record { reason = reason.NoDump; value = 0 })
 reason_of_dump (Some d) otherwise = otherwise d
@@ -88,12 +88,12 @@ reason_of_dump (Some d) otherwise = otherwise d
 abbrev pub entry_numbered : List Entry → ℕ → Option Entry
 entry_numbered entries n = if n == 0 then None else slice_get entries (n - 1)
 
--- the transaction that this entry began is open, and its session isn't
+-- whether the transaction that this entry began is open, and its session isn't
 abbrev pub is_orphan_of : Core → ℕ → Option Entry → Bool
 is_orphan_of c tx None = false
 is_orphan_of c tx (Some begin) = tx_of (log c.history) begin.session == tx && not (is_open c begin.session)
 
--- an open transaction whose session isn't open
+-- whether a transaction is open, and its session isn't
 abbrev pub is_orphan : Core → ℕ → Bool
 is_orphan c tx = is_orphan_of c tx (entry_numbered (log c.history) tx)
 
@@ -148,7 +148,7 @@ not_now c (Load b name) =
 
 -- ---- events
 
--- one more event
+-- the state with one more event in its history
 abbrev pub happened : Core → Event → Core
 happened c e = record c { history = c.history ++ e ∷ [] }
 
@@ -161,7 +161,7 @@ pub record LacksRoomFor (events : ℕ) (c : Core) (refusal : Refusal) (z : Core)
   pub refused : refusal ≡ history_full c
   pub after : z ≡ c
 
--- the log's store failed in the administrator's move, for which the history has room, and nothing came into the log
+-- the log's store failed in the administrator's move, for which the history has room, and nothing was logged
 pub record MeetsLogFault (events : ℕ) (c : Core) (refusal : Refusal) (z : Core) : Type 0 where
   pub space : events ≤ events_left c.history
   pub refused : refusal ≡ refusal_of_code LOG_FAULT
@@ -175,7 +175,7 @@ sessions_full c = record { code = SESSIONS_FULL; a = length c.sessions; b = 0 }
 abbrev pub has_no_number : Core → Bool
 has_no_number c = nat_le SESSION_LIMIT (length c.sessions) || nat_le SESSION_NUMBER_LIMIT c.greatest
 
--- a session with the next number
+-- the state with a new session of the next number
 abbrev pub opened_for : Core → List ℕ → Core
 opened_for c user = record c { sessions = c.sessions ++ new_session (c.greatest + 1) user ∷ []; greatest = c.greatest + 1 }
 
@@ -195,7 +195,7 @@ ClosesSession c s _ z = ⊥
 
 -- ---- entries
 
--- what the state of the session's transaction forbids
+-- the refusal of an act that the state of the session's transaction forbids
 abbrev pub forbidden_by : ℕ → Act → Option Refusal
 forbidden_by tx act.Begin = if tx == 0 then None else Some (record { code = IN_TRANSACTION; a = tx; b = 0 })
 forbidden_by tx (act.Write w) = None
@@ -221,22 +221,22 @@ abbrev pub next_entry : Core → ℕ → Act → Entry
 next_entry c s a =
     record { session = s; seq = (session_at c s).requests + 1; tx = tx_of_act (open_tx c s) a; user = (session_at c s).user; act = a }
 
--- the session has made one request more
+-- a session that has made one request more
 abbrev pub with_one_request : OpenSession → OpenSession
 with_one_request x = record x { requests = x.requests + 1 }
 
 abbrev pub with_request_counted : Core → ℕ → Core
 with_request_counted c s = record c { sessions = with_session c.sessions s with_one_request }
 
--- the entry is open
+-- the state with this entry scheduled, which is open
 abbrev pub with_entry : Core → Entry → Core
 with_entry c e = record c { history = c.history ++ event.Sched e ∷ []; failed = 0; starved = 0 }
 
--- and its session has counted it
+-- the state with this entry scheduled, and counted by its session
 abbrev pub scheduled_as : Core → ℕ → Entry → Core
 scheduled_as c s e = record (with_entry c e) { sessions = with_session c.sessions s with_one_request }
 
--- what the state of the session's transaction forbids
+-- the state of the session's transaction forbids the act
 pub record ScheduleIsForbidden (c : Core) (s : ℕ) (a : Act) (refusal : Refusal) (z : Core) : Type 0 where
   pub forbidden : forbidden_by (open_tx c s) a ≡ Some refusal
   pub after : z ≡ with_request_counted c s
@@ -304,12 +304,12 @@ AbortsOrphan c tx _ z = ⊥
 
 -- ---- backends take entries
 
--- where a backend stands, and the transactions that it has begun
+-- a backend's position, and the transactions that it has begun
 pub record Stance : Type 0 where
   pub position : Option ℕ
   pub begun : List ℕ
 
--- it has missed an entry
+-- the stance of a backend that is out, since it missed an entry
 abbrev pub out : Stance
 out = record { position = None; begun = [] }
 
@@ -317,7 +317,8 @@ out = record { position = None; begun = [] }
 abbrev pub takes_part_in : Core → ℕ → Entry → Bool
 takes_part_in c b e = takes_part c.placement b (begun_at c b) e.tx e.act
 
--- What backend b does with the entry at its position, and how it stands then. One that has no part in it skips it, which can't fail. `tells`: the backends tell what they hold.
+-- What backend b does with the entry at its position, and its stance then. A backend without a part in the entry
+-- skips it, which can't fail. `tells`: the backends tell what they hold.
 abbrev pub DoesWithEntry : Bool → Core → ℕ → ℕ → Entry → Did → Stance → Type 0
 DoesWithEntry tells c b p e (did.Done o) now =
     (takes_part_in c b e ≡ true) × IsOutcome o × (tells ≡ true → outcome_of (log c.history) p ≡ Some o)
@@ -326,7 +327,7 @@ DoesWithEntry tells c b p e did.Skipped now = (takes_part_in c b e ≡ false) ×
 DoesWithEntry tells c b p e did.Failed now = (takes_part_in c b e ≡ true) × (now ≡ out)
 DoesWithEntry tells c b p e did.Starved now = (takes_part_in c b e ≡ true) × (now ≡ out)
 
--- backend b stands at a position within the log, and takes the entry there
+-- backend b is at a position within the log, and is given the entry there
 pub record TakesEntry (tells : Bool) (c : Core) (b : ℕ) (d : Did) (now : Stance) : Type 0 where
   pub p : ℕ
   pub stands : position_at c b ≡ Some p
@@ -334,11 +335,11 @@ pub record TakesEntry (tells : Bool) (c : Core) (b : ℕ) (d : Did) (now : Stanc
   pub there : slice_get (log c.history) p ≡ Some entry
   pub does : DoesWithEntry tells c b p entry d now
 
--- backend b stands so from now on
+-- the state with this stance of backend b
 abbrev pub with_stance : Core → ℕ → Stance → Core
 with_stance c b now = record c { positions = slice_set c.positions b now.position; begun = slice_set c.begun b now.begun }
 
--- the masks of the open entry after backend b took it
+-- the mask of those that failed in the open entry, and below of those out of memory, after backend b's call
 abbrev pub failed_after : ℕ → ℕ → Did → ℕ
 failed_after mask b (did.Done o) = mask
 failed_after mask b did.Skipped = mask
@@ -364,14 +365,14 @@ Replays tells c b _ z = ⊥
 
 -- ---- the end of an entry
 
--- the session was answered at this position
+-- a session that was answered at this position
 abbrev pub answered_at : ℕ → OpenSession → OpenSession
 answered_at n x = record x { least = n }
 
 abbrev pub with_end : Core → List Event
 with_end c = c.history ++ event.Ended c.failed c.starved ∷ []
 
--- the entry has ended, and its session was answered
+-- the state after the entry ended and its session was answered
 abbrev pub ended_for : Core → ℕ → Core
 ended_for c s = record c { history = with_end c; failed = 0; starved = 0; sessions = with_session c.sessions s (answered_at (last_number c)) }
 
@@ -392,11 +393,11 @@ abbrev pub tried_of : Option OpenRead → ℕ
 tried_of None = 0
 tried_of (Some r) = r.tried
 
--- the read is still open, and these backends have failed in it
+-- a session whose read is still open, and in which these backends have failed
 abbrev pub still_reading : Select → ℕ → OpenSession → OpenSession
 still_reading select tried x = record x { requests = read_number x; reading = Some (record { select = select; tried = tried }) }
 
--- the read was answered
+-- a session whose read was answered
 abbrev pub was_answered : OpenSession → OpenSession
 was_answered x = record x { requests = read_number x; reading = None }
 
@@ -404,14 +405,14 @@ was_answered x = record x { requests = read_number x; reading = None }
 abbrev pub HasOtherRead : OpenSession → Select → Type 0
 HasOtherRead x select = (r : OpenRead) × (x.reading ≡ Some r) × (r.select ≢ select)
 
--- none is, or this one
+-- no read of the session is open, or this one
 abbrev pub HasNoOtherRead : OpenSession → Select → Type 0
 HasNoOtherRead x select = (r : OpenRead) → x.reading ≡ Some r → r.select ≡ select
 
 abbrev pub with_read : Core → ℕ → (OpenSession → OpenSession) → Core
 with_read c s f = record c { sessions = with_session c.sessions s f }
 
--- the history with the failed attempt
+-- the state after an attempt at the read failed
 abbrev pub read_failed : Core → ℕ → ℕ → (OpenSession → OpenSession) → Core
 read_failed c s b f =
     record c { history = c.history ++ event.ReadFailed s (read_number (session_at c s)) b ∷ []; sessions = with_session c.sessions s f }
@@ -429,7 +430,7 @@ abbrev pub IsServingMask : Core → Select → ℕ → Type 0
 IsServingMask c select mask = (b : ℕ) →
     (CanServe c.placement c.history (request.Select select) b → in_mask mask b ≡ true) × (in_mask mask b ≡ true → CanServe c.placement c.history (request.Select select) b)
 
--- the backend stands at position p, and has taken all that the session was answered
+-- the backend is at position p, and has applied or skipped all that the session was answered
 pub record IsFarEnough (c : Core) (s b : ℕ) : Type 0 where
   pub p : ℕ
   pub stands : position_at c b ≡ Some p
@@ -445,7 +446,7 @@ pub record ReadIsAnswered (tells : Bool) (c : Core) (s b : ℕ) (select : Select
   pub says : tells ≡ true → answer ≡ ask (database_after (log c.history) p) (open_tx c s) select
   pub after : z ≡ with_read c s (λ x. answered_at p (was_answered x))
 
--- no backend serves it
+-- no backend serves the read
 pub record ReadHasNoBackend (c : Core) (s b : ℕ) (select : Select) (refusal : Refusal) (z : Core) : Type 0 where
   pub none : HasNoServer c.placement c.history (request.Select select)
   pub refused : refusal ≡ refusal_of_code NO_BACKEND
@@ -485,7 +486,7 @@ pub record ReadCameTooEarly (c : Core) (s b : ℕ) (select : Select) (position :
   pub early : position ≡ None ⊎ (position_or_zero position < (session_at c s).least)
   pub after : z ≡ with_read c s (still_reading select (tried_of (session_at c s).reading))
 
--- what may be given where no other read of the session is open
+-- what an attempt at a read may give if no other read of the session is open
 abbrev pub AttemptsRead : Bool → Core → ℕ → ℕ → Select → MoveResult → Core → Type 0
 AttemptsRead tells c s b select (Ok (moved.Rows a)) z = ReadIsAnswered tells c s b select (asked.Rows a) z
 AttemptsRead tells c s b select (Ok (moved.Refused r)) z =
@@ -499,7 +500,7 @@ AttemptsRead tells c s b select (Err (NotNow w)) z =
 AttemptsRead tells c s b select (Err NoMemory) z = z ≡ c
 AttemptsRead tells c s b select _ z = ⊥
 
--- where another read is open, this one can't be made now
+-- what an attempt at a read may give; if another read is open, it can't be made now
 abbrev pub AttemptsReadOrWaits : Bool → Core → ℕ → ℕ → Select → MoveResult → Core → Type 0
 AttemptsReadOrWaits tells c s b select g z =
     (HasOtherRead (session_at c s) select × (g ≡ Err (NotNow (record { reason = reason.Waiting; value = s }))) × (z ≡ c))
@@ -525,7 +526,7 @@ Enables c b _ z = ⊥
 
 -- ---- checkpoints
 
--- a marker stands behind all entries so far
+-- a marker is set after all entries so far, or refused
 abbrev pub Marks : Core → List ℕ → MoveResult → Core → Type 0
 Marks c name (Ok (moved.Marked n)) z = (0 < events_left c.history) × (n ≡ last_number c) × (z ≡ happened c (event.Marker name None))
 Marks c name (Ok (moved.Refused r)) z = LacksRoomFor 1 c r z ⊎ MeetsLogFault 1 c r z
@@ -534,7 +535,7 @@ Marks c name _ z = ⊥
 
 -- ---- dumps
 
--- a dump of what backend b holds, which has taken n entries
+-- the state with one more dump, of backend b at position n
 abbrev pub dumped_as : Core → ℕ → List ℕ → ℕ → Core
 dumped_as c b name n = record c { dumps = c.dumps ++ record { name = name; source = b; position = n } ∷ [] }
 
@@ -545,7 +546,8 @@ Dumps c b name (Ok moved.Failed) z = z ≡ c
 Dumps c b name (Err NoMemory) z = z ≡ c
 Dumps c b name _ z = ⊥
 
--- Backend b holds what the dump of the name has of its tables. It stands where the dump was taken, and of a backend that tells the transactions begun are those with a draft there.
+-- Backend b holds what the dump of the name has of its tables, at the position where the dump was taken.
+-- If the backends tell what they hold, the transactions begun are those with a draft there.
 pub record LoadsDump (tells : Bool) (c : Core) (b : ℕ) (name : List ℕ) (n : ℕ) (z : Core) : Type 0 where
   pub taken : TakenDump
   pub found : find_dump c.dumps name ≡ Some taken
@@ -554,7 +556,7 @@ pub record LoadsDump (tells : Bool) (c : Core) (b : ℕ) (name : List ℕ) (n : 
   pub drafts : tells ≡ true → begun ≡ writers (part c.placement b (database_after (log c.history) n))
   pub after : z ≡ with_stance c b (record { position = Some n; begun = begun })
 
--- it does, or stays out
+-- backend b loads the dump of the name, or stays out
 abbrev pub Loads : Bool → Core → ℕ → List ℕ → MoveResult → Core → Type 0
 Loads tells c b name (Ok (moved.Loaded n)) z = LoadsDump tells c b name n z
 Loads tells c b name (Ok moved.Failed) z = z ≡ c

@@ -1,4 +1,4 @@
--- Lists of moves, the calls of a session in them, and the chain of turns that these are.
+-- Lists of moves, the calls of a session in them, and the chain of turns that the calls are.
 use Rattle.std.specs.Prelude.{◌≡◌, ℕ, ◌+◌, ◌<◌, ◌≤◌, Bool, true, false, ◌&&◌, ◌==◌, is_none, is_some, if◌then◌else◌, List, [], ◌∷◌, ◌++◌, length, take, slice_get, Ok, Err}
 use Rattle.std.specs.declared.option.Option.{Option}
 use Rattle.std.specs.declared.option.Option.TheVariants.{None, Some}
@@ -42,7 +42,7 @@ RunsMoves tells c (m ∷ ms) [] z = ⊥
 abbrev pub IsForLog : Request → Type 0
 IsForLog r = is_some (act_of r) ≡ true
 
--- What a move asks for: a backend that is there, a request that some text reads as, a user whose name is not too long.
+-- A move names a backend that is there, a request that some text reads as, and a user whose name is not too long.
 abbrev pub IsMoveOfCluster : ℕ → Move → Type 0
 IsMoveOfCluster backends (Open user) = length user ≤ USER_LIMIT
 IsMoveOfCluster backends (Close s) = Unit {0}
@@ -102,11 +102,11 @@ abbrev pub calls_at : Core → ℕ → Move → Option Reply → List Call
 calls_at c s m None = []
 calls_at c s m (Some reply) = call_at c s m reply ∷ []
 
--- what session s has seen where it was just answered: all that has happened, and the position that it needs from now on
+-- what session s has seen when it was just answered: all that happened, and the position that it needs from now on
 abbrev pub seen_at : Core → ℕ → SessionView
 seen_at c s = record { front = c.history; least = (session_at c s).least }
 
--- what it has seen after a move that led to z, where the move answered it
+-- what session s has seen after a move that led to z and gave it this reply; nothing without a reply
 abbrev pub seen_after : Core → ℕ → Option Reply → List SessionView
 seen_after z s None = []
 seen_after z s (Some reply) = seen_at z s ∷ []
@@ -120,14 +120,15 @@ RunsMovesOf s tells c (m ∷ ms) (g ∷ gs) calls seen z =
 RunsMovesOf s tells c [] (g ∷ gs) calls seen z = ⊥
 RunsMovesOf s tells c (m ∷ ms) [] calls seen z = ⊥
 
--- what it has seen at its last reply, where it had seen a before
+-- what a session has seen at its last reply, or a if there was none
 abbrev pub last_seen : SessionView → List SessionView → SessionView
 last_seen a [] = a
 last_seen a (b ∷ bs) = last_seen b bs
 
 -- ---- between two replies
 
--- The session's own entry is open: it was scheduled since, as its only one, in the transaction that the session was in, and nothing was enabled or disabled after it.
+-- The session's own entry is open: scheduled since its last reply, as its only one, in the transaction it was in.
+-- Nothing was enabled or disabled since the entry was scheduled.
 pub record AwaitsEnd (p : Placement) (front h : List Event) (s : ℕ) : Type 0 where
   pub e : Entry
   pub is : open_entry_of h ≡ Some e
@@ -143,26 +144,26 @@ pub record AwaitsEnd (p : Placement) (front h : List Event) (s : ℕ) : Type 0 w
   pub entries : entry_count_of s h ≡ entry_count_of s front + 1
   pub in_tx : tx_of (log (take m h)) s ≡ tx_of (log front) s
 
--- Backend b has failed since in the read of session s that has number q.
+-- After the history `front`, backend b has failed in the read of session s that has number q.
 pub record HasFailedSince (front h : List Event) (s q b : ℕ) : Type 0 where
   pub k : ℕ
   pub low : length front ≤ k
   pub high : k < length h
   pub is : slice_get h k ≡ Some (ReadFailed s q b)
 
--- Each backend that was tried in the open read of session s, as which x stands, has failed in it since.
+-- Each backend that was tried in the open read of session s, whose state is x, has failed in it after `front`.
 abbrev pub TriedSince : List Event → List Event → ℕ → OpenSession → Type 0
 TriedSince front h s x = (r : OpenRead) (b : ℕ) → x.reading ≡ Some r → in_mask r.tried b ≡ true → HasFailedSince front h s x.requests b
 
--- How it stands with an open session s, as which x stands, that has seen a at its last reply.
+-- An open session s, whose state is x, has seen a at its last reply, and what has happened since fits that.
 pub record StandsSince (p : Placement) (a : SessionView) (h : List Event) (s : ℕ) (x : OpenSession) : Type 0 where
   pub least : x.least ≡ a.least
-  -- its own entry is open, and no read
+  -- if the session's own entry is open, no read is
   pub waits : is_entry_of s (open_entry_of h) ≡ true → AwaitsEnd p a.front h s × (x.reading ≡ None)
-  -- no entry of its own is open: it has no new one, and is in the transaction that it was in
+  -- if no entry of the session is open, it has no new entry, and is in the transaction that it was in
   pub rests : is_entry_of s (open_entry_of h) ≡ false → (entry_count_of s h ≡ entry_count_of s a.front) × (tx_of (log h) s ≡ tx_of (log a.front) s)
   pub reads : TriedSince a.front h s x
-  -- the log's store failed in none of its requests
+  -- the log's store failed in none of the session's requests since
   pub log_faults : (q : ℕ) → log_faults_of s q h ≡ log_faults_of s q a.front
 
 -- Session s has seen a at its last reply, or has not begun.
@@ -172,11 +173,13 @@ pub record IsBetweenReplies (a : SessionView) (c : Core) (s : ℕ) : Type 0 wher
   pub here : is_open c s ≡ true → StandsSince c.placement a c.history s (session_at c s)
   pub later : c.greatest < s → a.least ≡ 0
 
--- Each session stands between two replies, or has not begun: there is what it has seen at its last one. Number 0 is the administrator's, who has no session.
+-- Each session is between two replies, or has not begun: for each there is what it has seen at its last reply.
+-- Number 0 is the administrator's, who has no session.
 abbrev pub AreBetween : Core → Type 0
 AreBetween c = (s : ℕ) → 0 < s → (a : SessionView) × IsBetweenReplies a c s
 
--- The replies to session s in a run are a chain of turns from what it has seen, wherever the run begins and ends within its calls. Each turn ends in the state that gave its reply.
+-- The replies to session s in a run are a chain of turns from what it has seen.
+-- The run may begin and end anywhere within the session's calls. Each turn ends in the state that gave its reply.
 pub record IsChained (tells : Bool) (s : ℕ) (c : Core) (ms : List Move) (gs : List MoveResult) (z : Core) (a : SessionView) : Type 0 where
   pub calls : List Call
   pub seen : List SessionView

@@ -19,7 +19,8 @@ use Rattle.cj_cluster.specs.History.Legality.{IsLegal}
 use Rattle.cj_cluster.specs.Moves.Cores.{Core, position_at, find_session}
 use Rattle.cj_cluster.specs.History.Transactions.{has_begun}
 
--- Where a backend stands: within the log, past each entry that ended where it is enabled, and in no mask. Or out, and then in a mask where it is enabled.
+-- A backend's position is within the log, past each ended entry if it is enabled, and the backend is in no mask.
+-- Or the backend is out, and then in a mask if it is enabled.
 abbrev pub BackendStands : List Event → ℕ → ℕ → ℕ → Option ℕ → Type 0
 BackendStands h failed starved b (Some p) =
     (p ≤ length (log h)) × (is_enabled h b ≡ true → ended_count h ≤ p) × (in_mask failed b ≡ false) × (in_mask starved b ≡ false)
@@ -32,7 +33,7 @@ CoversDrafts begun db = All (λ (s : Slot). IfSome s.draft (λ (d : Draft). has_
 abbrev pub by_session_number : OpenSession → OpenSession → Ordering
 by_session_number x y = nat_cmp x.number y.number
 
--- an open session's number was given, it has seen no more than the log, and no entry of it is later than its last request
+-- an open session's number was given, it needs no more than the log, and no entry of it is after its last request
 pub record IsSoundSession (h : List Event) (greatest : ℕ) (x : OpenSession) : Type 0 where
   pub number : (0 < x.number) × (x.number ≤ greatest)
   pub user : length x.user ≤ USER_LIMIT
@@ -66,12 +67,12 @@ pub record CoreInvariant (c : Core) : Type 0 where
   -- the session of the open entry is open, unless it is the administrator's
   pub waits : (e : Entry) → open_entry_of c.history ≡ Some e → (e.session ≡ 0) ⊎ (is_some (find_session c.sessions e.session) ≡ true)
 
--- A backend that tells and is not out holds its part of the database after the entries that it has taken.
+-- A backend that tells and is not out holds its part of the database after the entries before its position.
 abbrev pub HoldsPart : Bool → Placement → ℕ → List Entry → Option (List Slot) → Option ℕ → Type 0
 HoldsPart tells p b entries told None = Unit {0}
 HoldsPart tells p b entries told (Some n) = tells ≡ true → told ≡ Some (part p b (database_after entries n))
 
--- And it has begun each transaction of which it holds a draft.
+-- A backend that tells and is not out has begun each transaction of which it holds a draft.
 abbrev pub HasBegunDrafts : Bool → Placement → ℕ → List Entry → List ℕ → Option ℕ → Type 0
 HasBegunDrafts tells p b entries begun None = Unit {0}
 HasBegunDrafts tells p b entries begun (Some n) = tells ≡ true → CoversDrafts begun (part p b (database_after entries n))

@@ -62,7 +62,7 @@ pub record IsPlainSql (text : List ℕ) (r : Request) : Type 0 where
   pub reads : TextReadsAs text r
   pub plain : is_plain r ≡ true
 
--- the text reads as such a request that becomes an entry of the log
+-- the text reads as a request without clock or random numbers that becomes an entry of the log
 pub record IsWrite (text : List ℕ) (r : Request) : Type 0 where
   pub sql : IsPlainSql text r
   pub for_log : IsForLog r
@@ -121,7 +121,7 @@ did_text did.Starved = codes "starved"
 abbrev pub rows_text : Answer → List ℕ
 rows_text a = words (codes "rows" ∷ decimal (length a.rows) ∷ [])
 
--- no entry is answered with rows or numbers of the cache
+-- a reply to an entry as text; none is rows, or the counts of the cache
 abbrev pub reply_text : Reply → List ℕ
 reply_text (reply.Done n) = count_text n
 reply_text (reply.Rows a) = rows_text a
@@ -176,12 +176,12 @@ row_text [] = []
 row_text (v ∷ []) = literal v
 row_text (v ∷ w ∷ vs) = literal v ++ (codes ", " ++ row_text (w ∷ vs))
 
--- under the line of a query's answer a line for each of its rows
+-- a line for each row of a query's answer, which come after the answer's own line
 abbrev pub rows_under : Moved → List ℕ
 rows_under (moved.Rows a) = flat_map (λ (row : List Value). with_line_feed (row_text row)) a.rows
 rows_under _ = []
 
--- the lines of what a move came to
+-- the lines of a move's result
 abbrev pub moved_lines : List (List ℕ) → Made → List ℕ
 moved_lines names (made.Moved m) = with_line_feed (moved_text names m) ++ rows_under m
 moved_lines names (made.NotNow why) = with_line_feed (not_now_text why)

@@ -10,7 +10,7 @@ use Rattle.cj_model.specs.declared.select.Select.{Select}
 use Rattle.cj_model.specs.contracts.cached.Cached as entry
 use Rattle.cj_model.specs.Proving.SameStatements.{same_statement}
 
--- a cache: its entries, the most recently used first, its counts of hits and misses, and the most entries that it keeps
+-- a cache: its entries, the most recently used first, its counts of hits and misses, and the most entries it keeps
 pub record CacheState : Type 0 where
   pub entries : List Cached
   pub hits : ℕ
@@ -44,7 +44,7 @@ without s (e ∷ entries) = if is_entry_for s e then entries else e ∷ without 
 abbrev pub brought_to_front : Select → List Cached → List Cached
 brought_to_front s entries = cons_option (cached_entry s entries) (without s entries)
 
--- one more, where a count stands still at 2^64 - 1
+-- a count with one more, up to 2^64 - 1
 abbrev pub counted_up : ℕ → ℕ
 counted_up n = min (n + 1) (2 ^ 64 - 1)
 
@@ -67,7 +67,7 @@ after_look s c = record {
 
 -- ---- keeping
 
--- the cache after an entry was kept: the entry in front, in place of the one of its statement, and none beyond the capacity
+-- the cache after an entry was kept: in front, in place of the one of its statement, and none beyond the capacity
 abbrev pub after_keep : Cached → CacheState → CacheState
 after_keep e c = record c { entries = take c.capacity (e ∷ without e.select c.entries) }
 

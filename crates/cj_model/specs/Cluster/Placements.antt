@@ -16,7 +16,7 @@ pub record Hosting : Type 0 where
   pub table : List ℕ
   pub backend : ℕ
 
--- so many backends; full replication, or the pairs listed
+-- a placement: how many backends there are, and full replication or the pairs listed
 pub record Placement : Type 0 where
   pub backends : ℕ
   pub full : Bool
@@ -46,7 +46,7 @@ needs request.Begin = []
 needs request.Commit = []
 needs request.Rollback = []
 
--- ROLLBACK needs no backend
+-- whether a request needs a backend: each does, but ROLLBACK
 abbrev pub needs_backend : Request → Bool
 needs_backend (request.Select s) = true
 needs_backend (request.Write w) = true
@@ -56,7 +56,7 @@ needs_backend request.Begin = true
 needs_backend request.Commit = true
 needs_backend request.Rollback = false
 
--- an entry in which the transaction writes a table that backend b hosts
+-- whether an act of transaction of_tx is a write by tx to a table that backend b hosts
 abbrev pub writes_at : Placement → ℕ → ℕ → ℕ → Act → Bool
 writes_at p b tx of_tx act.Begin = false
 writes_at p b tx of_tx (act.Write w) = of_tx == tx && hosts p b (table_written w)
@@ -65,11 +65,11 @@ writes_at p b tx of_tx (act.Drop table) = false
 writes_at p b tx of_tx act.Commit = false
 writes_at p b tx of_tx act.Abort = false
 
--- the transaction wrote at backend b in one of these entries
+-- whether the transaction wrote at backend b in one of these entries
 abbrev pub wrote_at : Placement → ℕ → ℕ → List Entry → Bool
 wrote_at p b tx before = list_any (λ (e : Entry). writes_at p b tx e.tx e.act) before
 
--- whether an act of a transaction, behind the entries before it, concerns backend b
+-- whether an act of a transaction concerns backend b, after the entries before it
 abbrev pub concerns : Placement → ℕ → List Entry → ℕ → Act → Bool
 concerns p b before tx act.Begin = false
 concerns p b before tx (act.Write w) = hosts p b (table_written w)

@@ -1,4 +1,4 @@
--- What conditions and expressions come to in a row.
+-- The values of conditions and expressions in a row.
 use Rattle.std.specs.Prelude.{ℤ, pos, neg_ℤ, ◌+ℤ◌, ◌-ℤ◌, int_lt, Bool, true, false, not, ◌&&◌, ◌||◌, List}
 use Rattle.std.specs.declared.option.Option.{Option}
 use Rattle.std.specs.declared.option.Option.TheVariants.{None, Some}
@@ -19,7 +19,7 @@ abbrev pub operand_value : List Value → Operand → Value
 operand_value row (Constant v) = v
 operand_value row (Cell n) = cell row n
 
--- two values in this order stand in the relation
+-- whether the relation holds of two values that are ordered so
 abbrev pub relation_holds : Cmp → Ordering → Bool
 relation_holds Eq o = is_eq o
 relation_holds Ne o = is_ne o
@@ -28,21 +28,21 @@ relation_holds Le o = is_le o
 relation_holds Gt o = is_gt o
 relation_holds Ge o = is_ge o
 
--- the row meets the condition: INTEGER is compared as numbers, TEXT by bytes
+-- whether the row meets the condition: INTEGER is compared as numbers, TEXT by bytes
 abbrev pub is_true_in : Predicate → List Value → Bool
 is_true_in (Compare cmp l r) row = relation_holds cmp (value_cmp (operand_value row l) (operand_value row r))
 is_true_in (Not p) row = not (is_true_in p row)
 is_true_in (And p q) row = is_true_in p row && is_true_in q row
 is_true_in (Or p q) row = is_true_in p row || is_true_in q row
 
--- each row meets no condition
+-- whether the row meets the condition, if there is one; without one each row does
 abbrev pub satisfies : Option Predicate → List Value → Bool
 satisfies None row = true
 satisfies (Some p) row = is_true_in p row
 
 -- ---- expressions
 
--- a TEXT is no number, and stands for 0
+-- the number of a value; a TEXT counts as 0
 abbrev pub integer_of : Value → ℤ
 integer_of (Int z) = z
 integer_of (Text t) = pos 0
@@ -53,7 +53,7 @@ value_of row (Just o) = operand_value row o
 value_of row (Sum l r) = Int (integer_of (operand_value row l) +ℤ integer_of (operand_value row r))
 value_of row (Difference l r) = Int (integer_of (operand_value row l) -ℤ integer_of (operand_value row r))
 
--- an INTEGER of more than 64 bits
+-- whether a value is an INTEGER outside 64 bits
 abbrev pub is_out_of_range : Value → Bool
 is_out_of_range (Int z) = int_lt z (neg_ℤ (pos 9223372036854775808)) || int_lt (pos 9223372036854775807) z
 is_out_of_range (Text t) = false

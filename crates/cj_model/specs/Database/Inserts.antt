@@ -18,16 +18,16 @@ use Rattle.cj_model.specs.declared.codes.TheConstants.{NO_COLUMN, BAD_COLUMNS, D
 use Rattle.cj_model.specs.declared.limits.TheConstants.{ROW_LIMIT}
 use Rattle.cj_model.specs.Database.Tables.{by_key, put_by, is_distinct, column_names, fits_columns}
 
--- a refusal whose numbers say nothing
+-- the refusal with this code, and with 0 for both of its numbers
 abbrev pub refusal_of_code : ℕ → Refusal
 refusal_of_code code = record { code = code; a = 0; b = 0 }
 
--- the refusal where the test is true, and else what follows: nested, these are in the order in which refusals come
+-- the refusal if the test is true, else what follows; nested, they give the order in which refusals come
 abbrev pub refuse_if : {A : Type 0} → Bool → Refusal → Result A Refusal → Result A Refusal
 refuse_if true refusal otherwise = Err refusal
 refuse_if false refusal otherwise = otherwise
 
--- the rows afterwards and a count, or a refusal
+-- the rows after a change and the count that it answers, or its refusal
 abbrev pub Changed : Type 0
 Changed = Result (List (List Value) × ℕ) Refusal
 
@@ -45,21 +45,21 @@ abbrev pub row_of : List Column → Option (List (List ℕ)) → List Term → L
 row_of columns None tuple = map constant_value tuple
 row_of columns (Some names) tuple = map (λ (c : Column). constant_value (slice_index_or tuple (unwrap_or (position (bytes_eq c.name) names) 0) Now)) columns
 
--- a listed name is no column
+-- whether the INSERT lists a name that is no column of the table
 abbrev pub lists_unknown_column : List Column → Option (List (List ℕ)) → Bool
 lists_unknown_column columns None = false
 lists_unknown_column columns (Some names) = list_any (λ n. not (list_any (bytes_eq n) (column_names columns))) names
 
--- the list isn't each column once
+-- whether the INSERT has a list that isn't each column of the table once
 abbrev pub lists_unevenly : List Column → Option (List (List ℕ)) → Bool
 lists_unevenly columns None = false
 lists_unevenly columns (Some names) = not (is_distinct names && length names == length columns)
 
--- one of the rows has this row's key
+-- whether one of the rows has this row's key
 abbrev pub has_key : ℕ → List (List Value) → List Value → Bool
 has_key k rows r = list_any (λ x. is_eq (by_key k r x)) rows
 
--- two of the rows have one key
+-- whether two of the rows have one key
 abbrev pub has_key_twice : ℕ → List (List Value) → Bool
 has_key_twice k [] = false
 has_key_twice k (r ∷ rs) = has_key k rs r || has_key_twice k rs
@@ -67,7 +67,7 @@ has_key_twice k (r ∷ rs) = has_key k rs r || has_key_twice k rs
 abbrev pub too_many_rows : ℕ → Refusal
 too_many_rows n = record { code = ROWS_FULL; a = n; b = 0 }
 
--- the rows with the new ones in their places
+-- the rows with the new ones inserted in order of the key, or the refusal of a double key or of too many rows
 abbrev pub with_rows : ℕ → List (List Value) → List (List Value) → Changed
 with_rows k rows new =
     refuse_if (list_any (has_key k rows) new || has_key_twice k new) (refusal_of_code DUPLICATE)

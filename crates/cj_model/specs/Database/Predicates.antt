@@ -1,9 +1,9 @@
--- Conditions and expressions whose columns are given by their places in a row.
+-- Conditions and expressions whose columns are given by their indexes in a row.
 use Rattle.std.specs.Prelude.{ℕ}
 use Rattle.cj_model.specs.declared.value.Value.{Value}
 use Rattle.cj_model.specs.declared.term.Cmp.{Cmp}
 
--- a value, or what stands at a place of the row
+-- a value, or the value at an index of the row
 pub data Operand : Type 0 where
   Constant : Value → Operand
   Cell : ℕ → Operand

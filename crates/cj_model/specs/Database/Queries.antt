@@ -43,7 +43,7 @@ abbrev pub items_listed : Items → List Item
 items_listed All = []
 items_listed (Listed items) = items
 
--- the columns that stand outside the condition
+-- the columns that a SELECT names outside its condition
 abbrev pub columns_named : Select → List ColRef
 columns_named s = flat_map columns_of_item (items_listed s.items) ++ option_to_list s.group ++ map (λ (k : Key). k.col) s.order
 
@@ -54,21 +54,21 @@ is_plain_item (item.Col r) = true
 is_plain_item item.Count = false
 is_plain_item (item.Sum r) = false
 
--- the rows are counted or summed
+-- whether the items count or sum rows
 abbrev pub has_aggregate : Items → Bool
 has_aggregate items = list_any (λ i. not (is_plain_item i)) (items_listed items)
 
--- two references to one column
+-- whether two references mean one column
 abbrev pub is_same_column : Scope → ColRef → ColRef → Bool
 is_same_column scope r s = column_place scope r == column_place scope s
 
--- a plain column that is not the group's
+-- whether the item is a plain column other than that of GROUP BY
 abbrev pub is_outside_group : Scope → ColRef → Item → Bool
 is_outside_group scope group (item.Col r) = not (is_same_column scope group r)
 is_outside_group scope group item.Count = false
 is_outside_group scope group (item.Sum r) = false
 
--- `*`, or a plain column that is not the group's
+-- whether the items are `*`, or have a plain column other than that of GROUP BY
 abbrev pub leave_group : Scope → ColRef → Items → Bool
 leave_group scope group All = true
 leave_group scope group (Listed items) = list_any (is_outside_group scope group) items
@@ -81,7 +81,7 @@ has_bad_columns scope items keys None = has_aggregate items && (list_any is_plai
 
 -- ---- kinds
 
--- SUM of a TEXT
+-- whether the item is the SUM of a TEXT column
 abbrev pub sums_text : Scope → Item → Bool
 sums_text scope (item.Col r) = false
 sums_text scope item.Count = false
@@ -89,28 +89,28 @@ sums_text scope (item.Sum r) = same_kind (column_kind_at scope (column_place sco
 
 -- ---- rows
 
--- the values at a place, each once, rising
+-- the distinct values at an index of the rows, rising
 abbrev pub distinct_values : ℕ → List (List Value) → List Value
 distinct_values n rows = fold (put_by value_cmp) [] (map (λ r. cell r n) rows)
 
--- the rows with a value at a place
+-- the rows that have this value at an index
 abbrev pub rows_with : ℕ → List (List Value) → Value → List (List Value)
 rows_with n rows v = filter (λ r. is_eq (value_cmp (cell r n) v)) rows
 
--- The rows from which each row of the answer is made: with GROUP BY those with one value in the group's column, and without it
--- all where they are counted or summed, else each by itself.
+-- The rows from which each row of the answer is made: with GROUP BY those with one value in its column.
+-- Without GROUP BY these are all rows if they are counted or summed, else each row by itself.
 abbrev pub gathered : Scope → Items → Option ColRef → List (List Value) → List (List (List Value))
 gathered scope items (Some group) rows = map (rows_with (column_place scope group) rows) (distinct_values (column_place scope group) rows)
 gathered scope items None rows = if has_aggregate items then rows ∷ [] else map (λ r. r ∷ []) rows
 
--- the first one, whose values in the group's column are those of all
+-- the first row of a group, whose value in the column of GROUP BY is that of all
 abbrev pub first_row : List (List Value) → List Value
 first_row rows = slice_index_or rows 0 []
 
 abbrev pub sum_at : ℕ → List (List Value) → ℤ
 sum_at n rows = fold (λ total r. total +ℤ integer_of (cell r n)) (pos 0) rows
 
--- what an item is of the rows that were gathered
+-- the value of an item over the gathered rows
 abbrev pub item_value : Scope → List (List Value) → Item → Value
 item_value scope rows (item.Col r) = cell (first_row rows) (column_place scope r)
 item_value scope rows item.Count = Int (pos (length rows))
@@ -123,11 +123,11 @@ answer_row scope (Listed items) rows = map (item_value scope rows) items
 abbrev pub sort_key_of : Scope → Key → SortKey
 sort_key_of scope k = record { place = column_place scope k.col; desc = k.desc }
 
--- what is gathered for each row of the answer: in the order of the keys, in which what ties stays as it is, and cut
+-- the gathered rows for each row of the answer, stably sorted by the keys, up to the LIMIT
 abbrev pub groups_answered : Scope → Select → List (List Value) → List (List (List Value))
 groups_answered scope s rows = at_most s.limit (sorted_by (λ g h. sorts_before (map (sort_key_of scope) s.order) (first_row g) (first_row h)) (gathered scope s.items s.group rows))
 
--- a sum outside 64 bits
+-- whether the item is a SUM that lies outside 64 bits
 abbrev pub is_sum_out_of_range : Scope → List (List Value) → Item → Bool
 is_sum_out_of_range scope rows (item.Col r) = false
 is_sum_out_of_range scope rows item.Count = false
@@ -146,13 +146,13 @@ names_answered scope (Listed items) = map name_of_item items
 
 -- ---- any query
 
--- a row for each that was gathered
+-- the answer with a row for each list of gathered rows, or the refusal of a sum outside 64 bits
 abbrev pub answer_of : Scope → Select → List (List (List Value)) → Result Answer Refusal
 answer_of scope s groups =
     refuse_if (list_any (λ g. list_any (is_sum_out_of_range scope g) (items_listed s.items)) groups) (refusal_of_code OVERFLOW)
     (Ok (record { columns = names_answered scope s.items; rows = map (answer_row scope s.items) groups }))
 
--- over tables
+-- the answer to a SELECT over these tables, or its first refusal
 abbrev pub answer_over : List Table → Select → Result Answer Refusal
 answer_over tables s =
     let scope = scope_of (map (λ (t : Table). t.schema) tables) in

@@ -1,4 +1,4 @@
--- The columns that a statement may name: which one a reference means, and whether a statement's columns are there and its kinds agree.
+-- The columns that a statement may name: which one a reference means, whether all are there, and whether kinds agree.
 use Rattle.std.specs.Prelude.{ℕ, Bool, true, false, not, ◌&&◌, ◌||◌, ◌==◌, List, map, flat_map, count_by, position, slice_get, unwrap_or, option_map, is_none, if◌then◌else◌}
 use Rattle.std.specs.declared.option.Option.{Option}
 use Rattle.std.specs.declared.option.Option.TheVariants.{None, Some}
@@ -28,28 +28,28 @@ scope_of schemas = flat_map (λ (s : Schema). map (λ (c : Column). (s.table, c)
 
 -- ---- references to columns
 
--- no table is named, or this one
+-- whether a reference may mean a column of this table: it names no table, or this one
 abbrev pub allows_table : Option (List ℕ) → List ℕ → Bool
 allows_table None table = true
 allows_table (Some name) table = bytes_eq name table
 
--- the reference may mean this column
+-- whether the reference may mean this column
 abbrev pub may_mean : ColRef → List ℕ × Column → Bool
 may_mean r (table, column) = bytes_eq r.column column.name && allows_table r.table table
 
--- the place of the column that is meant; none where there is no such column, or more than one
+-- the index of the column that a reference means; none if no column fits it, or more than one
 abbrev pub place_of : Scope → ColRef → Option ℕ
 place_of scope r = if count_by (may_mean r) scope == 1 then position (may_mean r) scope else None
 
--- the reference means no column
+-- whether the reference means no column, or may mean several
 abbrev pub is_unknown_column : Scope → ColRef → Bool
 is_unknown_column scope r = is_none (place_of scope r)
 
--- the place of a column that is there
+-- the index of the column that a reference means, in a scope that has it
 abbrev pub column_place : Scope → ColRef → ℕ
 column_place scope r = unwrap_or (place_of scope r) 0
 
--- the kind of the column at a place
+-- the kind of the column at an index
 abbrev pub column_kind_at : Scope → ℕ → Kind
 column_kind_at scope n = unwrap_or (option_map (λ (c : List ℕ × Column). c.1.kind) (slice_get scope n)) kind.Integer
 
@@ -72,7 +72,7 @@ has_unknown_column scope (Not c) = has_unknown_column scope c
 has_unknown_column scope (And c d) = has_unknown_column scope c || has_unknown_column scope d
 has_unknown_column scope (Or c d) = has_unknown_column scope c || has_unknown_column scope d
 
--- the condition of WHERE, if there is one, does
+-- whether the condition of WHERE, if there is one, names an unknown column
 abbrev pub where_has_unknown_column : Scope → Option Condition → Bool
 where_has_unknown_column scope None = false
 where_has_unknown_column scope (Some c) = has_unknown_column scope c
@@ -93,20 +93,20 @@ kind_of_expr scope (Minus l r) = kind.Integer
 abbrev pub is_text_term : Scope → Term → Bool
 is_text_term scope t = same_kind (kind_of_term scope t) kind.Text
 
--- `+` or `-` has a TEXT
+-- whether `+` or `-` has a TEXT operand
 abbrev pub adds_text : Scope → Expr → Bool
 adds_text scope (One t) = false
 adds_text scope (Plus l r) = is_text_term scope l || is_text_term scope r
 adds_text scope (Minus l r) = is_text_term scope l || is_text_term scope r
 
--- the sides of a comparison differ in kind
+-- whether the sides of some comparison differ in kind
 abbrev pub mixes_kinds : Scope → Condition → Bool
 mixes_kinds scope (Test cmp l r) = not (same_kind (kind_of_term scope l) (kind_of_term scope r))
 mixes_kinds scope (Not c) = mixes_kinds scope c
 mixes_kinds scope (And c d) = mixes_kinds scope c || mixes_kinds scope d
 mixes_kinds scope (Or c d) = mixes_kinds scope c || mixes_kinds scope d
 
--- the condition of WHERE, if there is one, does
+-- whether the condition of WHERE, if there is one, has a comparison whose sides differ in kind
 abbrev pub where_mixes_kinds : Scope → Option Condition → Bool
 where_mixes_kinds scope None = false
 where_mixes_kinds scope (Some c) = mixes_kinds scope c

@@ -1,4 +1,4 @@
--- What an entry makes of a database, and what it comes to. A refused step leaves the database as it was.
+-- What an entry makes of a database, and its outcome. A refused step leaves the database as it was.
 use Rattle.std.specs.Prelude.{ℕ, Bool, not, ◌&&◌, ◌==◌, List, [], map, filter, count_by, position, unwrap_or, is_some, if◌then◌else◌}
 use Rattle.std.specs.declared.option.Option.{Option}
 use Rattle.std.specs.declared.option.Option.TheVariants.{None, Some}
@@ -23,7 +23,7 @@ use Rattle.cj_model.specs.Database.Tables.{slot_of, table_of, by_table, put_by, 
 use Rattle.cj_model.specs.Database.Inserts.{Changed, refusal_of_code}
 use Rattle.cj_model.specs.Database.Updates.{change}
 
--- the database afterwards, and the outcome
+-- the database after an entry, and the outcome of the entry
 pub record Stepped : Type 0 where
   pub db : List Slot
   pub outcome : Outcome
@@ -41,7 +41,7 @@ seen_behind base tx (Some d) = if d.tx == tx then d.table else base
 abbrev pub seen : Slot → ℕ → Table
 seen s tx = seen_behind s.base tx s.draft
 
--- the other transaction that has a draft
+-- the transaction other than tx that has a draft of the table, if there is one
 abbrev pub other_writer : ℕ → Option Draft → Option ℕ
 other_writer tx None = None
 other_writer tx (Some d) = if d.tx == tx then None else Some d.tx
@@ -74,7 +74,7 @@ written db tx w = write_in db tx w (slot_of db (table_written w))
 
 -- ---- CREATE and DROP
 
--- the columns are distinct, and exactly one is the primary key
+-- whether the columns are distinct, and exactly one is the primary key
 abbrev pub make_schema : List ColDef → Bool
 make_schema cs = is_distinct (map (λ (c : ColDef). c.name) cs) && count_by (λ (c : ColDef). c.key) cs == 1
 
@@ -94,7 +94,7 @@ created db c =
     else if make_schema c.columns then record { db = put_by by_table db (empty_slot c); outcome = Done 0 }
     else refuse db (refusal_of_code BAD_COLUMNS)
 
--- a table that any transaction has a draft of stays
+-- DROP of a table that is there: refused if any transaction has a draft of it
 abbrev pub drop_unless_locked : List Slot → List ℕ → Option Draft → Stepped
 drop_unless_locked db name None = record { db = filter (λ s. not (bytes_eq (table_of s) name)) db; outcome = Done 0 }
 drop_unless_locked db name (Some d) = refuse db (record { code = LOCKED; a = d.tx; b = 0 })
@@ -108,7 +108,7 @@ dropped db name = drop_in db name (slot_of db name)
 
 -- ---- the end of a transaction
 
--- its draft, if there is one, becomes the base
+-- the slot after COMMIT of tx: its draft, if there is one, is the base
 abbrev pub commit_behind : Table → ℕ → Option Draft → Slot
 commit_behind base tx None = record { base = base; draft = None }
 commit_behind base tx (Some d) = if d.tx == tx then record { base = d.table; draft = None } else record { base = base; draft = Some d }
@@ -116,7 +116,7 @@ commit_behind base tx (Some d) = if d.tx == tx then record { base = d.table; dra
 abbrev pub committed : ℕ → Slot → Slot
 committed tx s = commit_behind s.base tx s.draft
 
--- its draft, if there is one, goes
+-- the slot after ROLLBACK of tx: its draft, if there is one, is dropped
 abbrev pub abort_behind : Table → ℕ → Option Draft → Slot
 abort_behind base tx None = record { base = base; draft = None }
 abort_behind base tx (Some d) = if d.tx == tx then record { base = base; draft = None } else record { base = base; draft = Some d }

@@ -15,7 +15,7 @@ use Rattle.cj_model.specs.Database.Tables.{IsDatabase, put_by}
 abbrev pub IsFreeName : List ℕ → Type 0
 IsFreeName name = (is_name name ≡ true) × (keyword name ≡ None)
 
--- its names are no reserved words, and each value can be written as a constant
+-- a table's names are no reserved words, and each of its values can be written as a constant
 pub record IsStorableTable (t : Table) : Type 0 where
   pub table : IsFreeName t.schema.table
   pub columns : All (λ (c : Column). IsFreeName c.name) t.schema.columns

@@ -19,38 +19,38 @@ use Rattle.cj_model.specs.Database.Values.{kind_of, value_cmp}
 
 -- ---- order
 
--- the value at a place of a row
+-- the value at an index of a row
 abbrev pub cell : List Value → ℕ → Value
 cell row n = slice_index_or row n (Int (pos 0))
 
--- rows by their value at the key's place
+-- the order of rows by their value at the key's index
 abbrev pub by_key : ℕ → List Value → List Value → Ordering
 by_key k r s = value_cmp (cell r k) (cell s k)
 
--- names by their bytes
+-- the order of names by their bytes
 abbrev pub name_cmp : List ℕ → List ℕ → Ordering
 name_cmp = slice_cmp nat_cmp
 
 abbrev pub table_of : Slot → List ℕ
 table_of s = s.base.schema.table
 
--- slots by the name of their table
+-- the order of slots by the name of their table
 abbrev pub by_table : Slot → Slot → Ordering
 by_table s t = name_cmp (table_of s) (table_of t)
 
--- each stands below those after it
+-- each item of the list is below all after it
 abbrev pub Rises : {A : Type 0} → (A → A → Ordering) → List A → Type 0
 Rises order [] = Unit {0}
 Rises order (x ∷ xs) = All (λ y. order x y ≡ Less) xs × Rises order xs
 
--- a rising list with x in its place, instead of the one that is equal to it in this order
+-- a rising list with x inserted in order, in place of the item that is equal to it in this order
 abbrev pub put_by : {A : Type 0} → (A → A → Ordering) → List A → A → List A
 put_by order [] x = x ∷ []
 put_by order (y ∷ ys) x = match_ordering (order x y) (x ∷ y ∷ ys) (x ∷ ys) (y ∷ put_by order ys x)
 
 -- ---- tables
 
--- no name stands twice
+-- whether no name occurs twice
 abbrev pub is_distinct : List (List ℕ) → Bool
 is_distinct [] = true
 is_distinct (n ∷ ns) = not (list_any (bytes_eq n) ns) && is_distinct ns
@@ -64,14 +64,14 @@ same_kind kind.Integer kind.Text = false
 same_kind kind.Text kind.Integer = false
 same_kind kind.Text kind.Text = true
 
--- the row has a value of its column's kind for each column
+-- whether the row has exactly one value for each column, of that column's kind
 abbrev pub fits_columns : List Column → List Value → Bool
 fits_columns [] [] = true
 fits_columns [] (v ∷ vs) = false
 fits_columns (c ∷ cs) [] = false
 fits_columns (c ∷ cs) (v ∷ vs) = same_kind c.kind (kind_of v) && fits_columns cs vs
 
--- a schema, and at most so many rows of it in rising key
+-- a table: at most 16 columns with distinct names, and at most 65,536 fitting rows in rising key
 pub record IsTable (t : Table) : Type 0 where
   pub few : length t.schema.columns ≤ COLUMN_LIMIT
   pub distinct : is_distinct (column_names t.schema.columns) ≡ true

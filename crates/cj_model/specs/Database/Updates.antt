@@ -20,27 +20,27 @@ use Rattle.cj_model.specs.Database.Evaluation.{satisfies, value_of, is_out_of_ra
 
 -- ---- assignments
 
--- the column that is set
+-- the reference to the column that an assignment sets
 abbrev pub column_set : Set → ColRef
 column_set s = record { table = None; column = s.column }
 
--- the column that is set, or one of its expression, is none of the table's
+-- whether an assignment sets, or uses in its expression, a column that the table doesn't have
 abbrev pub set_has_unknown_column : Scope → Set → Bool
 set_has_unknown_column scope s = is_unknown_column scope (column_set s) || expr_has_unknown_column scope s.value
 
--- a column is set twice
+-- whether some column is set twice
 abbrev pub sets_twice : List Set → Bool
 sets_twice sets = not (is_distinct (map (λ (s : Set). s.column) sets))
 
--- the column at the key's place is set
+-- whether the assignment sets the primary key, at index k
 abbrev pub sets_key : Scope → ℕ → Set → Bool
 sets_key scope k s = column_place scope (column_set s) == k
 
--- `+` or `-` has a TEXT, or the value is not of its column's kind
+-- whether `+` or `-` has a TEXT operand, or the value is not of its column's kind
 abbrev pub set_mixes_kinds : Scope → Set → Bool
 set_mixes_kinds scope s = adds_text scope s.value || not (same_kind (column_kind_at scope (column_place scope (column_set s))) (kind_of_expr scope s.value))
 
--- a place of the row, and what is put there
+-- an assignment: an index of the row, and the expression for the new value there
 pub record Assignment : Type 0 where
   pub place : ℕ
   pub value : Formula
@@ -52,7 +52,7 @@ assignment_of scope s = record { place = column_place scope (column_set s); valu
 abbrev pub assigned : List Assignment → List Value → List Value
 assigned assignments row = fold (λ new (a : Assignment). slice_set new a.place (value_of row a.value)) row assignments
 
--- a new value lies outside 64 bits
+-- whether a new value of the row lies outside 64 bits
 abbrev pub overflows : List Assignment → List Value → Bool
 overflows assignments row = list_any (λ (a : Assignment). is_out_of_range (value_of row a.value)) assignments
 

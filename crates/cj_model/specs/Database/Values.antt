@@ -1,4 +1,4 @@
--- Values: INTEGER is ordered as numbers, TEXT by bytes, and each INTEGER stands before each TEXT.
+-- Values: INTEGER is ordered as numbers, TEXT by bytes, and each INTEGER comes before each TEXT.
 use Rattle.std.specs.Prelude.{◌≡◌, refl}
 use Rattle.std.specs.Cmp.{IsTotalOrder, int_cmp_total}
 use Rattle.std.specs.Cmp.Lexicographic.{slice_cmp, nat_list_cmp_total}
@@ -45,7 +45,7 @@ congr_of (Text s) (Int b) z p = cc p
 congr_of (Text s) (Text t) (Int c) p = refl
 congr_of (Text s) (Text t) (Text u) p = nat_list_cmp_total.congr s t u p
 
--- it is a total order
+-- the order of values is total
 pub value_total : IsTotalOrder value_cmp
 value_total = record { antisymm = antisymm_of; trans = trans_of; congr = congr_of }
 

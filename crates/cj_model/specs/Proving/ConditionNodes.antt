@@ -1,4 +1,4 @@
--- The tree of a condition that stands in memory.
+-- The tree of a condition that is in memory.
 use Rattle.cj_model.specs.declared.condition.CondNode.{CondNode}
 use Rattle.cj_model.specs.declared.condition.CondNode.TheVariants as node
 use Rattle.cj_model.specs.Database.Conditions.{Condition, Test, Not, And, Or}

@@ -1,4 +1,4 @@
--- Lists that stand one behind another in one list.
+-- Lists that are one after another in one list.
 use Rattle.std.specs.Prelude.{◌≡◌, ℕ, List, [], ◌∷◌, length, map, take, drop}
 use Rattle.std.specs.List.{flat_map}
 

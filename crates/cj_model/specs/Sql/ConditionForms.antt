@@ -124,7 +124,7 @@ abbrev mutual
   PrimNests (suc depth) (parens c) = CondNests depth c
   PrimNests depth (test a op b) = TermFits a × TermFits b
 
--- not too many open NOTs and parentheses at one place, nor comparisons
+-- a condition within the limits: of open NOTs and parentheses at one point, and of comparisons
 pub record CondFits (form : CondForm) : Type 0 where
   pub nests : CondNests DEPTH_LIMIT form
   pub counts : comparisons (cond_meant form) ≤ TEST_LIMIT

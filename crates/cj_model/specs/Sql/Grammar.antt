@@ -60,7 +60,8 @@ pub data Statement : Type 0 where
   create : List ℕ → List ColDef → Statement
   -- DROP TABLE name
   drop : List ℕ → Statement
-  -- INSERT INTO name [ "(" name { "," name } ")" ] VALUES tuple { "," tuple }, where tuple = "(" const { "," const } ")"
+  -- INSERT INTO name [ "(" name { "," name } ")" ] VALUES tuple { "," tuple },
+  -- where tuple = "(" const { "," const } ")"
   insert : List ℕ → Option (List (List ℕ)) → List (List ConstForm) → Statement
   -- UPDATE name SET set { "," set } [ WHERE cond ]
   update : List ℕ → List SetForm → Option CondForm → Statement
@@ -163,7 +164,7 @@ abbrev pub where_meant : Option CondForm → Option Condition
 where_meant None = None
 where_meant (Some c) = Some (cond_meant c)
 
--- a key rises where nothing else is said
+-- whether a key of ORDER BY falls: only with DESC
 abbrev pub descends : Direction → Bool
 descends unsaid = false
 descends ascending = false
@@ -208,7 +209,7 @@ abbrev pub LimitFits : Option ℕ → Type 0
 LimitFits None = Unit {0}
 LimitFits (Some n) = n < 2 ^ 63
 
--- the item is neither COUNT nor SUM
+-- whether the item is a column, neither COUNT nor SUM
 abbrev pub is_column : Item → Bool
 is_column (item.Col c) = true
 is_column item.Count = false
@@ -218,7 +219,7 @@ abbrev pub are_columns : Items → Bool
 are_columns items.All = true
 are_columns (items.Listed xs) = list_all is_column xs
 
--- COUNT, SUM or GROUP BY stands there
+-- whether a SELECT has COUNT, SUM or GROUP BY
 abbrev pub is_aggregate_query : Items → Option ColRef → Bool
 is_aggregate_query xs group = not (are_columns xs) || is_some group
 
@@ -250,7 +251,7 @@ abbrev pub end_tokens : Bool → List Token
 end_tokens true = token.Symbol symbol.Semi ∷ []
 end_tokens false = []
 
--- the tokens are a request's
+-- the tokens are those of a statement that means the request, and maybe a semicolon
 pub record TokensReadAs (tokens : List Token) (r : Request) : Type 0 where
   pub statement : Statement
   pub semicolon : Bool
@@ -264,6 +265,6 @@ pub record TextReadsAs (text : List ℕ) (r : Request) : Type 0 where
   pub tokens_of : Tokens text tokens
   pub reads : TokensReadAs tokens r
 
--- the text reads as nothing
+-- the text reads as no request
 abbrev pub ReadsAsNothing : List ℕ → Type 0
 ReadsAsNothing text = (r : Request) → TextReadsAs text r → ⊥

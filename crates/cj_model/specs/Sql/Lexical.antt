@@ -1,4 +1,4 @@
--- The tokens of a text: words, numbers, strings and symbols, each the longest that stands there.
+-- The tokens of a text: words, numbers, strings and symbols, each the longest that the text has there.
 use Rattle.std.specs.Prelude.{ℕ, ◌+◌, ◌-◌, ◌*◌, ◌^◌, ◌≤◌, ◌≡◌, Bool, true, false, ◌||◌, ◌==◌, if◌then◌else◌, List, [], ◌∷◌, ◌++◌, length, map, fold, ◌⊎◌}
 use Rattle.std.specs.declared.option.Option.{Option}
 use Rattle.std.specs.declared.option.Option.TheVariants.{None, Some}
@@ -23,7 +23,7 @@ is_white_space b = b == 32 || b == 9 || b == 10 || b == 13
 abbrev pub is_letter : ℕ → Bool
 is_letter b = is_ascii_alphabetic b || b == 95
 
--- what a word goes on with
+-- a byte that may continue a word: a letter, a digit or `_`
 abbrev pub is_word : ℕ → Bool
 is_word b = is_letter b || is_ascii_digit b
 
@@ -32,7 +32,7 @@ abbrev pub EachByte : (ℕ → Bool) → List ℕ → Type 0
 EachByte p [] = Unit {0}
 EachByte p (b ∷ z) = (p b ≡ true) × EachByte p z
 
--- the next byte, if there is one, doesn't
+-- the first of the bytes, if there is one, doesn't pass the test
 abbrev pub EndsBefore : (ℕ → Bool) → List ℕ → Type 0
 EndsBefore p [] = Unit {0}
 EndsBefore p (b ∷ z) = p b ≡ false
@@ -51,7 +51,7 @@ IsDigits (b ∷ z) = (is_ascii_digit b ≡ true) × EachByte is_ascii_digit z
 abbrev pub number_spelled : List ℕ → ℕ
 number_spelled = fold (λ n b. 10 * n + (b - 48)) 0
 
--- each quote twice
+-- the bytes with each quote doubled
 abbrev pub doubled : List ℕ → List ℕ
 doubled [] = []
 doubled (b ∷ z) = if b == 39 then 39 ∷ 39 ∷ doubled z else b ∷ doubled z
@@ -90,7 +90,7 @@ Spells (token.Number n) z = IsDigits z × (n ≡ number_spelled z) × (n ≤ 2 ^
 Spells (token.Text x) z = (z ≡ 39 ∷ doubled x ++ 39 ∷ []) × IsText x × (length x ≤ TEXT_LIMIT)
 Spells (token.Symbol s) z = IsSymbol s z
 
--- The token is the longest that stands there: what follows doesn't go on with it. Two hyphens never stand side by side.
+-- The token is the longest there: what follows doesn't continue it. Two hyphens are never side by side.
 abbrev pub EndsToken : Token → List ℕ → Type 0
 EndsToken (token.Word k) z = EndsBefore is_word z
 EndsToken (token.Name n) z = EndsBefore is_word z

@@ -1,4 +1,4 @@
--- Calls of the clock and of random numbers: what draws a request asks for, and the request with values in place of the calls.
+-- Calls of clock and random numbers: the draws that a request asks for, and the request with values for the calls.
 -- NOW() stands for one moment. Each RAND(n) stands for a draw of its own from 0 to n - 1. Draws stand in text order.
 use Rattle.std.specs.Prelude.{ℕ, ℤ, pos, negsuc, ◌<◌, ◌^◌, List, [], ◌∷◌, ◌++◌, All, drop, flat_map, fold, length, take}
 use Rattle.std.specs.declared.option.Option.{Option}
@@ -18,7 +18,7 @@ use Rattle.cj_model.specs.Database.Conditions.{Condition, Test, Not, And, Or}
 
 -- ---- the numbers of the RANDs, in text order
 
--- a number, where it isn't negative
+-- the number itself if it isn't negative
 abbrev pub natural_of : ℤ → ℕ
 natural_of (pos n) = n
 natural_of (negsuc n) = 0
@@ -75,7 +75,7 @@ RandsAreDrawable r = All IsDrawable (bounds r)
 
 -- ---- draws
 
--- The draws of a state, one for each bound in turn. The state tells what is drawn next, and which state comes after that.
+-- The draws from a state, one for each bound in turn. The state fixes what is drawn next, and the state after it.
 abbrev pub draws_from : {S : Type 0} → (S → ℕ → ℕ) → (S → ℕ → S) → S → List ℕ → List ℕ
 draws_from drawn later state [] = []
 draws_from drawn later state (n ∷ ns) = drawn state n ∷ draws_from drawn later (later state n) ns
@@ -88,7 +88,7 @@ generator_after_draws later state ns = fold later state ns
 abbrev pub draws_for : List ℕ → List ℕ → List ℕ
 draws_for bounds draws = take (length bounds) draws
 
--- the draws behind those
+-- the draws after the first ones, of which there is one for each bound
 abbrev pub draws_behind : List ℕ → List ℕ → List ℕ
 draws_behind bounds draws = drop (length bounds) draws
 
@@ -105,7 +105,7 @@ rewritten_term moment draws (Col c) = Col c
 rewritten_term moment draws Now = Lit (value.Int moment)
 rewritten_term moment draws (Rand n) = Lit (value.Int (pos (first_draw draws)))
 
--- the left side has the first of the draws, the right side those behind them
+-- the expression with values: the left side uses the first of the draws, the right side the next ones
 abbrev pub rewritten_expr : ℤ → List ℕ → Expr → Expr
 rewritten_expr moment draws (One t) = One (rewritten_term moment draws t)
 rewritten_expr moment draws (Plus l r) = Plus (rewritten_term moment (draws_for (term_bounds l) draws) l) (rewritten_term moment (draws_behind (term_bounds l) draws) r)
@@ -123,7 +123,7 @@ abbrev pub rewritten_where : ℤ → List ℕ → Option Condition → Option Co
 rewritten_where moment draws None = None
 rewritten_where moment draws (Some c) = Some (rewritten_condition moment draws c)
 
--- each item in turn has the first of the draws, and the next items those behind them
+-- the items with values: each in turn uses as many draws as it has RANDs, and the next items the draws after them
 abbrev pub each_rewritten : {A : Type 0} → (A → List ℕ) → (List ℕ → A → A) → List ℕ → List A → List A
 each_rewritten bounds_of rewritten_item draws [] = []
 each_rewritten bounds_of rewritten_item draws (x ∷ xs) =
@@ -135,7 +135,7 @@ rewritten_tuple moment draws row = each_rewritten term_bounds (rewritten_term mo
 abbrev pub rewritten_set : ℤ → List ℕ → Set → Set
 rewritten_set moment draws s = record { column = s.column; value = rewritten_expr moment draws s.value }
 
--- an UPDATE's assignments have the first of the draws, its WHERE those behind them
+-- the write with values: an UPDATE's assignments use the first of the draws, its WHERE the next ones
 abbrev pub rewritten_write : ℤ → List ℕ → Write → Write
 rewritten_write moment draws (write.Insert table columns rows) = write.Insert table columns (each_rewritten tuple_bounds (rewritten_tuple moment) draws rows)
 rewritten_write moment draws (write.Update table sets when) =

@@ -15,7 +15,7 @@ lower = to_ascii_lowercase
 abbrev pub begins_name : ℕ → Bool
 begins_name b = is_ascii_lowercase b || b == 95
 
--- what may stand in a name after its first byte
+-- a byte that a name may have after its first
 abbrev pub continues_name : ℕ → Bool
 continues_name b = begins_name b || is_ascii_digit b
 

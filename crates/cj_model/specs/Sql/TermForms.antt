@@ -1,4 +1,4 @@
--- Lists, constants, columns, terms and expressions: what may be written, the tokens of it, what it means, and its limits.
+-- Lists, constants, columns, terms and expressions: what may be written, its tokens, what it means, and its limits.
 use Rattle.std.specs.Prelude.{ℕ, ◌≤◌, ◌<◌, ◌^◌, List, [], ◌∷◌, length, pos, neg_ℤ}
 use Rattle.std.specs.declared.option.Option.{Option}
 use Rattle.std.specs.declared.option.Option.TheVariants.{None, Some}
@@ -21,7 +21,7 @@ commas item [] rest = rest
 commas item (x ∷ []) rest = item x rest
 commas item (x ∷ y ∷ more) rest = item x (token.Symbol symbol.Comma ∷ commas item (y ∷ more) rest)
 
--- each of them fits
+-- each item of the list fits
 abbrev pub EachFits : {A : Type 0} → (A → Type 0) → List A → Type 0
 EachFits P [] = Unit {0}
 EachFits P (x ∷ xs) = P x × EachFits P xs

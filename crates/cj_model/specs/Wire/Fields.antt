@@ -1,8 +1,8 @@
--- Fields of the binary formats: numbers, and bytes behind their length. Reading one from the front of bytes may fail with the error given.
+-- Fields of the binary formats: numbers, and bytes after their length. Reading one may fail with the error given.
 use Rattle.std.specs.Prelude.{ℕ, List, ◌++◌, length, take, drop, Result, Ok, Err, nat_lt, if◌then◌else◌}
 use Rattle.std.specs.Int.{Width, w16, w32, byte_len, to_be_bytes, from_be_bytes}
 
--- bytes behind their number as a u16, a u32
+-- bytes after their length as a u16, and below as a u32
 abbrev pub str16 : List ℕ → List ℕ
 str16 bytes = to_be_bytes w16 (length bytes) ++ bytes
 

@@ -1,4 +1,4 @@
--- What a client's messages are as bytes, what it means that bytes are frames and a rest, and what is wrong with a rest.
+-- A client's messages as bytes, what it means that bytes are frames and a rest, and what is wrong with a rest.
 use Rattle.std.specs.Prelude.{◌≡◌, ℕ, ◌+◌, ◌^◌, ◌<◌, ◌≤◌, not, ◌&&◌, Bool, List, [], ◌∷◌, ◌++◌, length, take, nat_lt, ◌==◌, if◌then◌else◌, slice_index}
 use Rattle.std.specs.declared.option.Option.{Option}
 use Rattle.std.specs.declared.option.Option.TheVariants.{None, Some}
@@ -11,7 +11,7 @@ use Rattle.cj_model.specs.declared.message.FrameFault.TheVariants.{LengthZero, L
 use Rattle.cj_model.specs.declared.limits.TheConstants.{FRAME_LIMIT}
 use Rattle.cj_model.specs.Wire.Fields.{str16}
 
--- the kind, and the payload
+-- the body of a message: its kind, and then its payload
 abbrev pub message_body : Message → List ℕ
 message_body (Login user password) = 1 ∷ str16 user ++ str16 password
 message_body (Query text) = 2 ∷ text
@@ -22,14 +22,14 @@ message_body Quit = 4 ∷ []
 abbrev pub frame : Message → List ℕ
 frame m = to_be_bytes w32 (length (message_body m)) ++ message_body m
 
--- texts short enough for their length fields
+-- a message whose texts are short enough for their length fields
 abbrev pub HasTexts : Message → Type 0
 HasTexts (Login user password) = (length user < 2 ^ 16) × (length password < 2 ^ 16)
 HasTexts (Query text) = Unit {0}
 HasTexts Stats = Unit {0}
 HasTexts Quit = Unit {0}
 
--- what has a frame
+-- a message that has a frame
 pub record IsFramed (m : Message) : Type 0 where
   pub texts : HasTexts m
   pub size : length (message_body m) ≤ FRAME_LIMIT
@@ -54,8 +54,8 @@ stated_length rest = from_be_bytes w32 (take 4 rest)
 abbrev pub is_client_kind : ℕ → Bool
 is_client_kind kind = nat_lt 0 kind && nat_lt kind 5
 
--- What is wrong with a rest that begins with no whole frame, as soon as it can be seen: the length once four bytes are there,
--- the kind once the fifth is, the payload once the stated length is. None where more bytes have to come.
+-- What is wrong with a rest that begins with no whole frame, as soon as it can be seen: the length once four bytes
+-- are there, the kind once the fifth is, the payload once the stated length is. None if more bytes have to come.
 unfoldable pub fault_of : List ℕ → Option FrameFault
 fault_of rest =
     if nat_lt (length rest) 4 then None
@@ -66,7 +66,7 @@ fault_of rest =
     else if nat_lt (length rest) (4 + stated_length rest) then None
     else Some Payload
 
--- the number by which a client is told
+-- the number of a fault that a client is told
 abbrev pub fault_number : FrameFault → ℕ
 fault_number LengthZero = 1
 fault_number LengthOver = 2

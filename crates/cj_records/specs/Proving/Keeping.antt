@@ -17,11 +17,11 @@ pub record Laid (magic held : List ℕ) (bodies : List (List ℕ)) (end : ℕ) (
   pub gate : end < length held
   pub closed : torn ≡ false → slice_index_or held end 1 ≢ 1
 
--- the window shows what the store holds there
+-- the window shows bytes that the store holds at its offset
 abbrev pub ShowsPart : List ℕ → ℕ → List ℕ → Type 0
 ShowsPart held from shown = shown ≡ take (length shown) (drop from held)
 
--- the places and the gate are those of the bytes, and the window shows some of these
+-- the places and the gate are those of the bytes, and the window shows some of the bytes
 pub record AgreesWithStore (tells : Bool) (held magic : List ℕ) (places : List Place) (end : ℕ) (torn : Bool) (from : ℕ) (part : List ℕ) : Type 0 where
   pub limit : end ≤ most
   pub within : AllWithin end places
@@ -30,17 +30,18 @@ pub record AgreesWithStore (tells : Bool) (held magic : List ℕ) (places : List
 
 -- ---- what a stop may leave
 
--- the body behind the gate, by the length that stands there
+-- the body after the gate, of the length that is there
 abbrev pub body_behind : List ℕ → ℕ → List ℕ
 body_behind held end = take (from_be_bytes w64 (take 8 (drop (end + 1) held))) (drop (end + 9) held)
 
--- behind the gate stands a whole record with this body, and a closed gate
+-- after the gate come the rest of a whole record with this body, and a closed gate
 pub record HasRecordBehind (held : List ℕ) (end : ℕ) (body : List ℕ) : Type 0 where
   pub later : List ℕ
   pub behind : drop (end + 1) held ≡ str64 body ++ 0 ∷ later
   pub small : HasLength body
 
--- A stop leaves these records and a closed gate. While the gate is torn, it leaves the bytes as they are, but for that gate, and behind it stands the record that was refused.
+-- A stop leaves these records and a closed gate. While the gate is torn, it leaves all bytes but the gate as they
+-- are, and after the gate is the record that was refused.
 pub record SurvivesStop (tells : Bool) (held : List ℕ) (may : List ℕ → Type 0) (magic : List ℕ) (places : List Place) (end : ℕ) (torn : Bool) : Type 0 where
   pub shut : tells ≡ true → torn ≡ false → (image : List ℕ) → may image → Laid magic image (bodies_at held places) end false
   pub may_be_open : tells ≡ true → torn ≡ true → (image : List ℕ) → may image → SameButGate end held image
