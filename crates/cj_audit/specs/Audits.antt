@@ -14,11 +14,11 @@ use Rattle.cj_model.specs.Sql.Literals.{literal}
 use Rattle.cj_model.specs.Sql.Names.{IsNameOrEmpty, IsText}
 use Rattle.cj_print.specs.Canonical.{separated}
 
--- these words, with one space between each two
+-- the words, with one space between each two
 abbrev pub joined_words : List (List ℕ) → List ℕ
 joined_words = join_with_byte 32
 
--- a line with its LF
+-- the line with a line feed after it
 abbrev pub ended_line : List ℕ → List ℕ
 ended_line line = line ++ 10 ∷ []
 
@@ -26,28 +26,28 @@ ended_line line = line ++ 10 ∷ []
 abbrev pub table_row_text : List Value → List ℕ
 table_row_text = separated literal
 
--- a line for each row
+-- the rows, one line each
 abbrev pub row_lines : List (List Value) → List ℕ
 row_lines = flat_map (λ row. ended_line (table_row_text row))
 
--- the names of the backend and the table, the state in which the table stands there, and how many rows it has
+-- the head line of a table: the names of backend and table, the table's state and its number of rows
 abbrev pub table_head : List ℕ → List ℕ → Table → List ℕ
 table_head name state t = joined_words (name ∷ t.schema.table ∷ state ∷ decimal (length t.rows) ∷ [])
 
--- and under that line its rows
+-- the head line of a table, and its rows below it
 abbrev pub table_lines : List ℕ → List ℕ → Table → List ℕ
 table_lines name state t = ended_line (table_head name state t) ++ row_lines t.rows
 
--- the state of a draft: that it is one, and of which transaction
+-- the state of a draft: the word `draft` and its transaction
 abbrev pub draft_state : ℕ → List ℕ
 draft_state tx = joined_words (codes "draft" ∷ decimal tx ∷ [])
 
--- a draft that nobody has made takes no line
+-- the lines of a draft; no lines without one
 abbrev pub draft_lines : List ℕ → Option Draft → List ℕ
 draft_lines name None = []
 draft_lines name (Some d) = table_lines name (draft_state d.tx) d.table
 
--- a table as committed, and then its draft where there is one
+-- the lines of a table as committed, and then of its draft if there is one
 abbrev pub slot_lines : List ℕ → Slot → List ℕ
 slot_lines name s = table_lines name (codes "base") s.base ++ draft_lines name s.draft
 
@@ -57,25 +57,26 @@ backend_lines name database = flat_map (slot_lines name) database
 
 -- ---- an audit is a text
 
--- what was a text is still one
+-- the new bytes are a text if the old ones are
 abbrev pub StaysText : List ℕ → List ℕ → Type 0
 StaysText old new = IsText old → IsText new
 
--- what the types of the program allow: a number of 64 bits with a sign, or a text
+-- a value that the program's types allow: a signed number of 64 bits, or a text
 abbrev pub IsTypedValue : Value → Type 0
 IsTypedValue (value.Int n) = FitsSigned w64 n
 IsTypedValue (value.Text t) = IsText t
 
--- a name, such values, and no more rows than 64 bits can count
+-- a table that the program's types allow: a name, such values, and fewer than 2^64 rows
 pub record IsTypedTable (t : Table) : Type 0 where
   pub name : IsNameOrEmpty t.schema.table
   pub count : length t.rows < 2 ^ 64
   pub values : All (λ row. All IsTypedValue row) t.rows
 
+-- a slot that the program's types allow, with its draft if there is one
 pub record IsTypedSlot (s : Slot) : Type 0 where
   pub base : IsTypedTable s.base
   pub draft : IfSome s.draft (λ (d : Draft). (d.tx < 2 ^ 64) × IsTypedTable d.table)
 
--- what an audit says of a backend is a text, where its name and all that it holds are what their types allow
+-- the lines of a backend are a text if its name and all that it holds are what the program's types allow
 abbrev pub AuditsAreTexts : Type 0
 AuditsAreTexts = (name : List ℕ) (database : List Slot) → IsNameOrEmpty name → All IsTypedSlot database → IsText (backend_lines name database)

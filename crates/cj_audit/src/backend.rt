@@ -1,4 +1,4 @@
-//! The lines of what a backend holds, as a text.
+//! The lines of what a backend holds.
 
 ghost use Rattle.std.specs.Prelude.{◌≡◌, ◌++◌, OnOk};
 ghost use Rattle.cj_model.specs.Sql.Names.{IsText};
@@ -7,7 +7,8 @@ ghost use Rattle.cj_audit.specs.Audits.{StaysText, backend_lines};
 use crate::tables::append_slot;
 use cj_model::{Db, Name, NoMemory, Text};
 
-/// Adds the lines of the database at the backend of this name. Nothing is said of the text after want of memory.
+/// Appends the lines of a database that the backend of this name holds. After `NoMemory` the contract says
+/// nothing of the text.
 pub fn append_backend(text: &mut Vec<u8>, name: &Name, database: &Db) -> Result<(), NoMemory>
     ensures ok { OnOk result (text.new.items ≡ text.old.items ++ backend_lines name.now database.now) }
     ensures text { OnOk result (StaysText text.old.items text.new.items) }
@@ -18,7 +19,7 @@ pub fn append_backend(text: &mut Vec<u8>, name: &Name, database: &Db) -> Result<
     Ok(())
 }
 
-/// The bytes as the text that they are. It takes no memory.
+/// The text that the bytes are, without allocation.
 pub fn into_text(bytes: Vec<u8>) -> Text
     requires { IsText bytes.items }
     ensures { result ≡ bytes.items }

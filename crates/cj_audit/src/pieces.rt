@@ -1,4 +1,4 @@
-//! What lines are made of. Each piece is a text, so that what was a text stays one.
+//! The pieces of lines. Each piece is a text, so appending it to a text gives a text.
 
 ghost use Rattle.std.specs.Prelude.{◌≡◌, ◌++◌, OnOk};
 ghost use Rattle.std.specs.Fmt.{decimal};
@@ -10,7 +10,7 @@ ghost use Rattle.cj_audit.specs.Audits.{StaysText};
 use cj_model::{Name, NoMemory, Value};
 use cj_print::write_value;
 
-/// Adds the bytes of a text.
+/// Appends bytes that are a text. After `NoMemory` the contract says nothing of the text.
 pub fn append_text(text: &mut Vec<u8>, bytes: &[u8]) -> Result<(), NoMemory>
     requires { IsText bytes.now }
     ensures ok { OnOk result (text.new.items ≡ text.old.items ++ bytes.now) }
@@ -20,7 +20,7 @@ pub fn append_text(text: &mut Vec<u8>, bytes: &[u8]) -> Result<(), NoMemory>
     Ok(())
 }
 
-/// Adds words or signs of ASCII.
+/// Appends bytes of ASCII. After `NoMemory` the contract says nothing of the text.
 pub fn append_ascii(text: &mut Vec<u8>, words: &[u8]) -> Result<(), NoMemory>
     requires { IsAsciiText words.now }
     ensures ok { OnOk result (text.new.items ≡ text.old.items ++ words.now) }
@@ -29,6 +29,7 @@ pub fn append_ascii(text: &mut Vec<u8>, words: &[u8]) -> Result<(), NoMemory>
     append_text(text, words)
 }
 
+/// Appends a name. After `NoMemory` the contract says nothing of the text.
 pub fn append_name(text: &mut Vec<u8>, name: &Name) -> Result<(), NoMemory>
     ensures ok { OnOk result (text.new.items ≡ text.old.items ++ name.now) }
     ensures text { OnOk result (StaysText text.old.items text.new.items) }
@@ -36,7 +37,7 @@ pub fn append_name(text: &mut Vec<u8>, name: &Name) -> Result<(), NoMemory>
     append_text(text, name.as_slice())
 }
 
-/// Adds the count in decimal.
+/// Appends a count in decimal. After `NoMemory` the contract says nothing of the text.
 pub fn append_count(text: &mut Vec<u8>, count: u64) -> Result<(), NoMemory>
     ensures ok { OnOk result (text.new.items ≡ text.old.items ++ decimal count) }
     ensures text { OnOk result (StaysText text.old.items text.new.items) }
@@ -46,7 +47,7 @@ pub fn append_count(text: &mut Vec<u8>, count: u64) -> Result<(), NoMemory>
     append_text(text, digits.as_bytes())
 }
 
-/// Adds the value's literal.
+/// Appends the literal of a value. After `NoMemory` the contract says nothing of the text.
 pub fn append_value(text: &mut Vec<u8>, value: &Value) -> Result<(), NoMemory>
     ensures ok { OnOk result (text.new.items ≡ text.old.items ++ literal value.now) }
     ensures text { OnOk result (StaysText text.old.items text.new.items) }

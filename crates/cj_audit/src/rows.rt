@@ -8,7 +8,7 @@ ghost use Rattle.cj_audit.specs.Audits.{StaysText, row_lines, table_row_text};
 use crate::pieces::{append_ascii, append_value};
 use cj_model::{NoMemory, Row, Value};
 
-/// Adds the values' literals, each behind a comma and a space.
+/// Appends the literals of values, each after a comma and a space.
 fn append_behind_commas(text: &mut Vec<u8>, values: &[Value]) -> Result<(), NoMemory>
     ensures ok { OnOk result (text.new.items ≡ text.old.items ++ behind_commas literal values.now) }
     ensures text { OnOk result (StaysText text.old.items text.new.items) }
@@ -20,7 +20,7 @@ fn append_behind_commas(text: &mut Vec<u8>, values: &[Value]) -> Result<(), NoMe
     Ok(())
 }
 
-/// Adds the values' literals, with a comma and a space between each two.
+/// Appends the literals of values, with a comma and a space between each two.
 fn append_row(text: &mut Vec<u8>, values: &[Value]) -> Result<(), NoMemory>
     ensures ok { OnOk result (text.new.items ≡ text.old.items ++ table_row_text values.now) }
     ensures text { OnOk result (StaysText text.old.items text.new.items) }
@@ -34,7 +34,7 @@ fn append_row(text: &mut Vec<u8>, values: &[Value]) -> Result<(), NoMemory>
     }
 }
 
-/// Adds a line for each of the rows.
+/// Appends one line for each row. After `NoMemory` the contract says nothing of the text.
 pub fn append_rows(text: &mut Vec<u8>, rows: &[Row]) -> Result<(), NoMemory>
     ensures ok { OnOk result (text.new.items ≡ text.old.items ++ row_lines rows.now) }
     ensures text { OnOk result (StaysText text.old.items text.new.items) }

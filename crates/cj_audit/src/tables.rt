@@ -10,7 +10,7 @@ use crate::rows::append_rows;
 use cj_model::{Draft, Name, NoMemory, Slot, Table};
 use std::alloc::Global;
 
-/// Adds the words that the line above a table's rows has, without its LF.
+/// Appends the head line of a table, without its line feed.
 fn append_head(text: &mut Vec<u8>, name: &Name, state: &[u8], table: &Table) -> Result<(), NoMemory>
     requires { IsText state.now }
     ensures ok { OnOk result (text.new.items ≡ text.old.items ++ table_head name.now state.now table.now) }
@@ -25,7 +25,7 @@ fn append_head(text: &mut Vec<u8>, name: &Name, state: &[u8], table: &Table) -> 
     append_count(text, table.rows.len() as u64)
 }
 
-/// Adds the lines of a table that stands in this state at the backend of this name.
+/// Appends the lines of a table in this state at the backend of this name.
 fn append_table(
     text: &mut Vec<u8>,
     name: &Name,
@@ -61,7 +61,8 @@ fn append_draft(text: &mut Vec<u8>, name: &Name, draft: &Option<Draft>) -> Resul
     }
 }
 
-/// Adds the lines of a table as committed, and of its draft.
+/// Appends the lines of a table as committed, and of its draft. After `NoMemory` the contract says nothing
+/// of the text.
 pub fn append_slot(text: &mut Vec<u8>, name: &Name, slot: &Slot) -> Result<(), NoMemory>
     ensures ok { OnOk result (text.new.items ≡ text.old.items ++ slot_lines name.now slot.now) }
     ensures text { OnOk result (StaysText text.old.items text.new.items) }

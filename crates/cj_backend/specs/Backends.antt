@@ -1,4 +1,4 @@
--- What calls of a backend give and leave. What a backend holds is told as `Some` database, or not told.
+-- What calls of a backend give and leave. Contents that are visible to contracts are `Some` database, else `None`.
 use Rattle.std.specs.Prelude.{◌≡◌, ◌⊎◌, ℕ, ◌≤◌, Bool, true, false, if◌then◌else◌, not, ◌==◌, List, [], ◌∷◌, ◌++◌, filter, Contains, IfSome, IfOk, IsErrOf}
 use Rattle.std.specs.declared.option.Option.{Option}
 use Rattle.std.specs.declared.option.Option.TheVariants.{None, Some}
@@ -19,77 +19,78 @@ use Rattle.cj_backend.specs.declared.backend.BackendError.TheVariants as errors
 
 -- ---- causes
 
--- a fault is counted exactly where the backend answers that it failed
+-- a fault is counted if and only if the backend answers that it failed
 abbrev pub HasBackendCause : {T : Type 0} → ℕ → ℕ → Result T BackendError → Type 0
 HasBackendCause before now result = CountsFault (IsErrOf result errors.Failed) before now
 
 -- ---- arming
 
+-- how a backend is armed to fail
 pub record Arming : Type 0 where
-  -- the next call that may fail does
+  -- whether the next call that may fail does so
   pub armed : Bool
-  -- how often it was armed, up to the largest `u64`
+  -- how often the backend was armed, up to the largest `u64`
   pub times : ℕ
 
--- armed once more, if it can be
+-- the arming after one more, which only a backend that can be armed takes
 abbrev pub arming_after : Bool → Arming → Arming
 arming_after true a = record { armed = true; times = next a.times }
 arming_after false a = a
 
--- no longer armed
+-- the arming after a call: the backend is no longer armed
 abbrev pub spent : Arming → Arming
 spent a = record a { armed = false }
 
--- an armed backend answers that it failed, and is no longer armed after a call
+-- an armed backend answers that it failed, and no backend is armed after a call
 pub record SpendsArming {T : Type 0} (before now : Arming) (result : Result T BackendError) : Type 0 where
   pub fails : before.armed ≡ true → IsErrOf result errors.Failed
   pub after : now ≡ spent before
 
 -- ---- asks
 
--- the count of asks after one: it rises by one where the ask was answered, whatever the answer, and is as before otherwise
+-- the count of answered queries after a query: one more where there was an answer, and unchanged after an error
 abbrev pub asks_after : {T E : Type 0} → ℕ → Result T E → ℕ
 asks_after asks (Ok answer) = next asks
 asks_after asks (Err e) = asks
 
 -- ---- contents
 
--- the outcome is that of the act on the database that was told
+-- the outcome is that of the act on the database that was told, where one was
 abbrev pub SaysOutcome : Option (List Slot) → ℕ → Act → Result Outcome BackendError → Type 0
 SaysOutcome told tx act result = IfOk result (λ o. IfSome told (λ db. o ≡ (acted db tx act).outcome))
 
--- what is told after an act: the act's database, where one was told; and after an error nothing
+-- what is told after an act: the act's database, where one was told, and nothing after an error
 abbrev pub told_after : {T : Type 0} → Option (List Slot) → ℕ → Act → Result T BackendError → Option (List Slot)
 told_after told tx act (Ok x) = option_map (λ db. (acted db tx act).db) told
 told_after told tx act (Err e) = None
 
--- the answer is that of the query on the database that is told
+-- the answer is that of the query on the database that is told, where one is
 abbrev pub SaysAnswer : Option (List Slot) → ℕ → Select → Result Asked BackendError → Type 0
 SaysAnswer told tx select result = IfOk result (λ answer. IfSome told (λ db. answer ≡ ask db tx select))
 
--- what is told after a load: the database that was loaded, of a backend that tells; and after an error nothing
+-- what is told after a load: the loaded database, of a backend that tells its contents, and nothing after an error
 abbrev pub told_loaded : {T : Type 0} → Bool → List Slot → Result T BackendError → Option (List Slot)
 told_loaded tells db (Ok x) = if tells then Some db else None
 told_loaded tells db (Err e) = None
 
 -- ---- logins and transactions
 
--- the last login is the one given; or after an error maybe the one before
+-- the last login is the one given; after an error it may be the one before
 abbrev pub LogsIn : {T : Type 0} → Option (List ℕ) → List ℕ → Result T BackendError → Option (List ℕ) → Type 0
 LogsIn before given (Ok x) now = now ≡ Some given
 LogsIn before given (Err e) now = (now ≡ Some given) ⊎ (now ≡ before)
 
--- the same of a query: want of memory leaves the login that was
+-- the last login after a query is the one given; after Failed it may be the one before, and after NoMemory it is
 abbrev pub LogsInToAsk : {T : Type 0} → Option (List ℕ) → List ℕ → Result T BackendError → Option (List ℕ) → Type 0
 LogsInToAsk before given (Ok x) now = now ≡ Some given
 LogsInToAsk before given (Err errors.Failed) now = (now ≡ Some given) ⊎ (now ≡ before)
 LogsInToAsk before given (Err errors.NoMemory) now = now ≡ before
 
--- no transaction, or one of those begun
+-- the number is 0 for no transaction, or one of the transactions begun
 abbrev pub IsBegun : List ℕ → ℕ → Type 0
 IsBegun begun tx = (tx ≡ 0) ⊎ Contains begun tx
 
--- the transactions begun, with one more unless there was an error
+-- the transactions begun, with one more at the end unless there was an error
 abbrev pub begun_with : {T : Type 0} → List ℕ → ℕ → Result T BackendError → List ℕ
 begun_with begun tx (Ok x) = begun ++ tx ∷ []
 begun_with begun tx (Err e) = begun
@@ -99,7 +100,8 @@ abbrev pub begun_without : {T : Type 0} → List ℕ → ℕ → Result T Backen
 begun_without begun tx (Ok x) = filter (λ t. not (t == tx)) begun
 begun_without begun tx (Err e) = begun
 
--- the transactions begun, those with a draft in the database that was loaded unless there was an error
+-- the transactions begun after a load: those with a draft in the loaded database, or the earlier ones after an
+-- error
 abbrev pub begun_loaded : {T : Type 0} → List ℕ → List Slot → Result T BackendError → List ℕ
 begun_loaded begun db (Ok x) = writers db
 begun_loaded begun db (Err e) = begun

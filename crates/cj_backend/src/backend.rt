@@ -14,7 +14,7 @@ use thiserror::Error;
 /// Why a backend did not carry out a call.
 #[derive(Clone, Copy, Debug, PartialEq, Eq, Error)]
 pub enum BackendError {
-    /// The backend failed, and has counted it.
+    /// The backend failed, and has counted a fault.
     #[error("the backend failed")]
     Failed,
     #[error("out of memory")]
@@ -32,39 +32,39 @@ impl From<NoMemory> for BackendError {
     }
 }
 
-/// What a backend has counted.
+/// The counts that a backend keeps.
 #[derive(Clone, Copy, PartialEq, Eq)]
 pub struct Counts {
     /// The faults, up to 2^64 - 1.
     pub faults: u64,
-    /// The queries that it answered, up to 2^64 - 1.
+    /// The queries that were answered, up to 2^64 - 1; a refusal is an answer.
     pub asks: u64,
     /// The transactions that are begun and have not ended.
     pub begun: u64,
 }
 
-/// A database that carries out changes and answers queries, one call after another. It keeps its
-/// own allocator.
+/// A database that carries out changes and answers queries, one call after another. It keeps its own
+/// allocator.
 ///
-/// Each call but `contents`, `load`, `counts`, `login` and `arm` names the login that it is made
-/// under. Each but `counts`, `login` and `arm` may answer `Failed`, which counts one fault, and
-/// `NoMemory` at any time, which counts none; nor does a call that is carried out. After a change that was not carried out, a load among them, the backend
-/// no longer tells what it holds. After the next load that is carried out it tells again.
+/// Each call but `contents`, `load`, `counts`, `login` and `arm` names the login under which it is made.
+/// Each but `counts`, `login` and `arm` may fail. `Failed` counts one fault; `NoMemory` counts none, nor
+/// does a call that is carried out. After a change that failed, a load among them, contracts no longer see
+/// what the backend holds. They see it again after the next load that is carried out.
 pub trait Backend {
     ghost use Rattle.cj_model.specs.Database.Outcomes.{IsOutcome, IsAsked};
     ghost use Rattle.cj_backend.specs.Backends.{HasBackendCause, SaysOutcome, SaysAnswer, told_after, LogsIn, LogsInToAsk, IsBegun, begun_with, begun_without, told_loaded, begun_loaded, asks_after, Arming, SpendsArming, arming_after};
 
-    /// Whether it tells what it holds: at all times but from a change that was not carried out to
-    /// the next load that is.
+    /// Whether contracts see what the backend holds: always, except from a failed change to the next load
+    /// that is carried out.
     ghost tells: { Bool };
 
-    /// What it holds, or `None` where that is not told.
+    /// The database that the backend holds, or `None` where contracts do not see it.
     ghost told: { Self → Option (List Slot) };
 
-    /// How many faults it has counted.
+    /// The number of faults that the backend has counted.
     ghost faults: { Self → ℕ };
 
-    /// How many queries it answered; a refusal of the query is an answer.
+    /// The number of queries that the backend answered; a refusal is an answer.
     ghost asks: { Self → ℕ };
 
     /// The transactions that are begun and have not ended, in the order of their beginnings.
@@ -73,13 +73,14 @@ pub trait Backend {
     /// The login of the last call.
     ghost login: { Self → Option (List ℕ) };
 
-    /// Whether it can be armed.
+    /// Whether the backend can be armed to fail.
     ghost can_be_armed: { Bool };
 
-    /// Whether it is armed, and how often it was.
+    /// Whether the backend is armed, and how often it was.
     ghost arming: { Self → Arming };
 
-    /// Begins transaction `tx`.
+    /// Begins transaction `tx`, which must not be begun yet. After an error it is not begun, and contracts
+    /// no longer see what the backend holds.
     fn begin(&mut self, user: &Text, tx: u64) -> Result<(), BackendError>
         requires { ¬ Contains (begun self.old) tx }
         ensures told { told self.new ≡ told_after (told self.old) tx act.Begin result }
@@ -89,7 +90,8 @@ pub trait Backend {
         ensures asks { asks self.new ≡ asks self.old }
         ensures arming { SpendsArming (arming self.old) (arming self.new) result };
 
-    /// Carries out a write of transaction `tx`, 0 for none.
+    /// Carries out a write of transaction `tx`, 0 for none, or refuses it. After an error contracts no
+    /// longer see what the backend holds.
     fn write(&mut self, user: &Text, tx: u64, write: &Write) -> Result<Outcome, BackendError>
         requires begun { IsBegun (begun self.old) tx }
         requires written { IsWritten (request.Write write.now) }
@@ -102,7 +104,8 @@ pub trait Backend {
         ensures asks { asks self.new ≡ asks self.old }
         ensures arming { SpendsArming (arming self.old) (arming self.new) result };
 
-    /// CREATE TABLE, outside of a transaction.
+    /// Creates a table outside of a transaction, or refuses it. After an error contracts no longer see what
+    /// the backend holds.
     fn create(&mut self, user: &Text, create: &Create) -> Result<Outcome, BackendError>
         requires { IsWritten (request.Create create.now) }
         ensures outcome { SaysOutcome (told self.old) 0 (act.Create create.now) result }
@@ -114,7 +117,8 @@ pub trait Backend {
         ensures asks { asks self.new ≡ asks self.old }
         ensures arming { SpendsArming (arming self.old) (arming self.new) result };
 
-    /// DROP TABLE, outside of a transaction.
+    /// Drops a table outside of a transaction, or refuses it. After an error contracts no longer see what
+    /// the backend holds.
     fn drop_table(&mut self, user: &Text, table: &Name) -> Result<Outcome, BackendError>
         ensures outcome { SaysOutcome (told self.old) 0 (act.Drop table.now) result }
         ensures possible { IfOk result IsOutcome }
@@ -125,7 +129,8 @@ pub trait Backend {
         ensures asks { asks self.new ≡ asks self.old }
         ensures arming { SpendsArming (arming self.old) (arming self.new) result };
 
-    /// Ends transaction `tx` and keeps its writes.
+    /// Commits transaction `tx`, which must be begun. After an error it is still begun, and contracts no
+    /// longer see what the backend holds.
     fn commit(&mut self, user: &Text, tx: u64) -> Result<(), BackendError>
         requires { Contains (begun self.old) tx }
         ensures told { told self.new ≡ told_after (told self.old) tx act.Commit result }
@@ -135,7 +140,8 @@ pub trait Backend {
         ensures asks { asks self.new ≡ asks self.old }
         ensures arming { SpendsArming (arming self.old) (arming self.new) result };
 
-    /// Ends transaction `tx` and forgets its writes.
+    /// Ends transaction `tx`, which must be begun, without its writes. After an error it is still begun,
+    /// and contracts no longer see what the backend holds.
     fn abort(&mut self, user: &Text, tx: u64) -> Result<(), BackendError>
         requires { Contains (begun self.old) tx }
         ensures told { told self.new ≡ told_after (told self.old) tx act.Abort result }
@@ -145,7 +151,8 @@ pub trait Backend {
         ensures asks { asks self.new ≡ asks self.old }
         ensures arming { SpendsArming (arming self.old) (arming self.new) result };
 
-    /// Answers a query of transaction `tx`, 0 for none. Want of memory changes nothing.
+    /// Answers a query of transaction `tx`, 0 for none, or refuses it. Contracts see the same contents as
+    /// before, after an error too. `NoMemory` also leaves the last login.
     fn ask(&mut self, user: &Text, tx: u64, select: &Select) -> Result<Asked, BackendError>
         requires { IsWritten (request.Select select.now) }
         ensures answer { SaysAnswer (told self.old) tx select.now result }
@@ -157,7 +164,8 @@ pub trait Backend {
         ensures asks { asks self.new ≡ asks_after (asks self.old) result }
         ensures arming { SpendsArming (arming self.old) (arming self.new) result };
 
-    /// A copy of what it holds, drafts included. Nothing is changed by it.
+    /// A copy of what the backend holds, drafts included. Contracts see the same contents as before, after
+    /// an error too.
     fn contents(&mut self) -> Result<Db, BackendError>
         ensures contents { IfOk result (λ db. IfSome (told self.old) (λ held. db ≡ held)) }
         ensures storable { IfOk result IsStorable }
@@ -168,8 +176,9 @@ pub trait Backend {
         ensures asks { asks self.new ≡ asks self.old }
         ensures arming { SpendsArming (arming self.old) (arming self.new) result };
 
-    /// Holds this database from now on, whatever it held before. The transactions with a draft in it
-    /// are begun.
+    /// Replaces what the backend holds by this database. The transactions with a draft in it are begun.
+    /// After an error the earlier transactions stay begun, and contracts no longer see what the backend
+    /// holds.
     fn load(&mut self, db: Db) -> Result<(), BackendError>
         requires { IsStorable db }
         ensures told { told self.new ≡ told_loaded tells db result }
@@ -179,7 +188,7 @@ pub trait Backend {
         ensures asks { asks self.new ≡ asks self.old }
         ensures arming { SpendsArming (arming self.old) (arming self.new) result };
 
-    /// What it has counted, which takes no memory.
+    /// The backend's counts, without allocation.
     fn counts(&self) -> Counts
         ensures { result ≡ record { faults = faults self.now; asks = asks self.now; begun = length (begun self.now) } };
 
@@ -187,7 +196,8 @@ pub trait Backend {
     fn login(&self) -> Option<&Text>
         ensures { option_copied result ≡ login self.now };
 
-    /// Asks that the next call that may fail fails. A backend that can't ignores it.
+    /// Arms the backend: the next call that may fail answers `Failed`. A backend that can't be armed
+    /// ignores it.
     fn arm(&mut self)
         ensures arming { arming self.new ≡ arming_after can_be_armed (arming self.old) }
         ensures told { told self.new ≡ told self.old }

@@ -1,4 +1,4 @@
-//! A column set in the places of the rows.
+//! A column that is set in place.
 
 ghost use Rattle.std.specs.Prelude.{◌≡◌, slice_set};
 ghost use Rattle.cj_model.specs.declared.value.Value.TheVariants as value;
@@ -8,8 +8,8 @@ use cj_model::Value;
 use cj_rowstore::RowEdit;
 use cj_search::satisfies;
 
-/// A column that is set to an INTEGER in each row that meets a condition. A row in which the value
-/// is none of 64 bits stays as it is.
+/// A column that is set to an INTEGER in each row that meets a condition. A row whose new value does not
+/// fit 64 bits stays unchanged.
 #[derive(Drop)]
 pub struct ColumnEdit {
     pub place: usize,

@@ -15,7 +15,7 @@ use cj_rowstore::{RowMap, View, key_of};
 use cj_search::{bound_where, matching_rows, where_has_unknown_column, where_mixes_kinds};
 use std::alloc::Global;
 
-/// The changes that take the rows out.
+/// The changes that remove the rows.
 fn removals(alloc: Global, place: usize, rows: &[&[Value]]) -> Result<RowMap, NoMemory>
     ensures { IfOk result (λ changes. changes ≡ entries.removals place (map deref rows.now)) }
 {
@@ -27,7 +27,7 @@ fn removals(alloc: Global, place: usize, rows: &[&[Value]]) -> Result<RowMap, No
     Ok(changes)
 }
 
-/// What takes the rows that meet the condition out of a table.
+/// The change that removes the rows which meet the condition.
 fn without_rows(
     alloc: Global,
     view: &View,
@@ -52,7 +52,8 @@ fn without_rows(
     })))
 }
 
-/// How a DELETE is to change a table; by a walk over all rows only where it is free of drafts.
+/// Gives the change of a DELETE to a table, or its first refusal. A walk in place is chosen only if
+/// `is_undrafted`: no transaction has a draft of the table. Fails only with `NoMemory`.
 pub fn deleted(
     alloc: Global,
     view: &View,

@@ -17,7 +17,7 @@ use cj_model::{
 use cj_rowstore::{RowMap, View, key_in, key_of};
 use std::alloc::Global;
 
-/// Whether the values are of the columns' kinds, one for each.
+/// Whether the row has one value for each column, of the column's kind.
 fn fits_columns(mut columns: &[Column], mut row: &[Value]) -> bool
     ensures { result ≡ tables.fits_columns columns.entry.now row.entry.now }
 {
@@ -43,7 +43,7 @@ fn constant(alloc: Global, term: &Term) -> Result<Value, NoMemory>
     }
 }
 
-/// The value of the constant at a place.
+/// The value of the constant at index `place` of a tuple.
 fn constant_at(alloc: Global, tuple: &[Term], place: usize) -> Result<Value, NoMemory>
     ensures { IfOk result (λ value. value ≡ inserts.constant_value (slice_index_or tuple.now place Term.Now)) }
 {
@@ -134,7 +134,7 @@ fn names_unknown_column(columns: &[Column], names: &[Name]) -> bool
     names.iter().any(|name| !is_column(columns, name))
 }
 
-/// Whether a listed name is no column.
+/// Whether the list names an unknown column.
 fn lists_unknown_column(columns: &[Column], names: &Option<Names>) -> bool
     ensures { result ≡ inserts.lists_unknown_column columns.now names.now }
 {
@@ -144,7 +144,7 @@ fn lists_unknown_column(columns: &[Column], names: &Option<Names>) -> bool
     }
 }
 
-/// Whether the list isn't each column once.
+/// Whether a list is given that repeats a name, or does not have as many names as there are columns.
 fn lists_unevenly(columns: &[Column], names: &Option<Names>) -> bool
     ensures { result ≡ inserts.lists_unevenly columns.now names.now }
 {
@@ -154,14 +154,14 @@ fn lists_unevenly(columns: &[Column], names: &Option<Names>) -> bool
     }
 }
 
-/// Whether a tuple hasn't a constant for each column.
+/// Whether some tuple has not exactly one constant for each column.
 fn has_uneven(width: usize, tuples: &[Tuple]) -> bool
     ensures { result ≡ list_any (λ u. not (length u == width)) tuples.now }
 {
     tuples.iter().any(|tuple| tuple.len() != width)
 }
 
-/// Whether a row has a value of another kind than its column's.
+/// Whether some row does not have one value for each column, of the column's kind.
 pub fn has_misfit(columns: &[Column], rows: &[Row]) -> bool
     ensures { result ≡ list_any (λ r. not (tables.fits_columns columns.now r)) rows.now }
 {
@@ -169,7 +169,7 @@ pub fn has_misfit(columns: &[Column], rows: &[Row]) -> bool
         .any(|row| !fits_columns(columns, row.as_slice()))
 }
 
-/// Whether a row of the table has this row's key.
+/// Whether the table has a row with this row's key.
 fn has_key(view: &View, row: &[Value]) -> bool
     ensures { result ≡ inserts.has_key view.now.schema.key view.now.rows row.now }
 {
@@ -178,14 +178,15 @@ fn has_key(view: &View, row: &[Value]) -> bool
     view.find(key).is_some()
 }
 
-/// Whether a row of the table has the key of one of these.
+/// Whether the table has a row with the key of one of these rows.
 fn has_key_of(view: &View, rows: &[Row]) -> bool
     ensures { result ≡ list_any (inserts.has_key view.now.schema.key view.now.rows) rows.now }
 {
     rows.iter().any(|row| has_key(view, row.as_slice()))
 }
 
-/// The changes that put the rows at their keys; none where two have one key.
+/// The changes that put each row at its key, the value at index `place`. None if two rows have one key.
+/// Fails only with `NoMemory`.
 pub fn puts(alloc: Global, place: usize, rows: Rows) -> Result<Option<RowMap>, NoMemory>
     ensures { IfOk result (λ changes. changes ≡ puts_once place rows) }
 {
@@ -200,7 +201,7 @@ pub fn puts(alloc: Global, place: usize, rows: Rows) -> Result<Option<RowMap>, N
     Ok(Some(changes))
 }
 
-/// What puts new rows into a table, all of which must have keys of their own.
+/// The plan that adds rows to a table; refused unless all their keys are new and differ.
 fn with_rows(alloc: Global, view: &View, rows: Rows) -> Result<Planned, NoMemory>
     ensures { PlansChange view.now (inserts.with_rows view.now.schema.key view.now.rows rows) result }
 {
@@ -227,7 +228,7 @@ fn with_rows(alloc: Global, view: &View, rows: Rows) -> Result<Planned, NoMemory
     }))
 }
 
-/// What puts new rows into a table, if these fit its columns.
+/// The plan that adds rows to a table; refused first if a value's kind is not its column's.
 fn with_fitting_rows(alloc: Global, view: &View, rows: Rows) -> Result<Planned, NoMemory>
     ensures { PlansChange view.now (with_fitting_rows view.now rows) result }
 {
@@ -237,7 +238,8 @@ fn with_fitting_rows(alloc: Global, view: &View, rows: Rows) -> Result<Planned, 
     with_rows(alloc, view, rows)
 }
 
-/// What an INSERT is to change of a table.
+/// Gives the plan of an INSERT into a table, or its first refusal. `names` is the list of columns, if the
+/// statement has one. Fails only with `NoMemory`.
 pub fn inserted(
     alloc: Global,
     view: &View,

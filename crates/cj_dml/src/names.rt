@@ -13,7 +13,7 @@ fn contains(names: &[Name], name: &Name) -> bool
     names.iter().any(|other| name.is(other))
 }
 
-/// Whether all names differ.
+/// Whether no two names of the list are equal.
 pub fn is_distinct(mut names: &[Name]) -> bool
     ensures { result ≡ tables.is_distinct names.entry.now }
 {

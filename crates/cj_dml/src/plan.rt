@@ -1,4 +1,4 @@
-//! What a write is to change of a table.
+//! Which changes a write makes of a table.
 
 ghost use Rattle.std.specs.Prelude.{◌≡◌};
 ghost use Rattle.cj_model.specs.Database.Updates.{change};
@@ -13,30 +13,31 @@ use cj_model::{NoMemory, Refusal, Write};
 use cj_rowstore::{RowMap, View};
 use std::alloc::Global;
 
-/// Changed rows of a table by their keys.
+/// The changes of a write to the rows of a table, by key.
 #[derive(Drop)]
 pub struct Plan {
     pub changes: RowMap,
-    /// The number of rows with the changes.
+    /// The number of the table's rows after the changes.
     pub count: usize,
-    /// The number of rows that are written.
+    /// The number of rows that the write inserts, updates or deletes.
     pub written: u64,
 }
 
 /// A plan, or the refusal of the write.
 pub type Planned = Result<Plan, Refusal>;
 
-/// How a table is changed.
+/// How a write changes a table: by keys, or by one walk in place.
 #[derive(Drop)]
 pub enum Change {
     ByKey(Plan),
-    /// Each row in its place, which takes no memory, where no transaction has a draft of the table.
+    /// Sets one column in place, without allocation. Only for a table on which no transaction has a draft.
     InPlace {
         edit: ColumnEdit,
-        /// The number of rows that are written.
+        /// The number of rows that the write inserts, updates or deletes.
         written: u64,
     },
-    /// Only the rows that pass stay, by one walk, which takes no memory, of a table without drafts.
+    /// Keeps only the rows that pass, by one walk without allocation. Only for a table on which no
+    /// transaction has a draft.
     Removal {
         by: Unmet,
         /// The number of rows that stay.
@@ -58,7 +59,9 @@ fn as_change(planned: Planned) -> Decided
     }
 }
 
-/// How a write is to change a table; by a walk over all rows only where it is free of drafts.
+/// Gives the change of a write to a table, or its first refusal; the table itself stays unchanged. A change
+/// in place is chosen only if `is_undrafted`: no transaction has a draft of the table. Fails only with
+/// `NoMemory`.
 pub fn decided(
     alloc: Global,
     view: &View,
@@ -83,8 +86,7 @@ pub fn decided(
     }
 }
 
-/// Whether so many rows are more than an eighth of all: fewer cost less by their keys than a walk
-/// over all.
+/// Whether `rows` is more than an eighth of `all`. Fewer rows cost less by key than one walk over all.
 pub fn are_many(rows: usize, all: usize) -> bool {
     rows > all / 8
 }

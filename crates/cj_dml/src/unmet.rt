@@ -1,4 +1,4 @@
-//! The rows that a condition leaves.
+//! Rows that do not meet a condition.
 
 ghost use Rattle.std.specs.Prelude.{◌≡◌};
 
@@ -7,7 +7,7 @@ use cj_model::Value;
 use cj_rowstore::RowTest;
 use cj_search::satisfies;
 
-/// Passes the rows that do not meet a condition.
+/// A test that passes the rows which do not meet a condition.
 #[derive(Drop)]
 pub struct Unmet {
     pub condition: Option<Predicate>,

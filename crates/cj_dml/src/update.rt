@@ -26,7 +26,7 @@ use cj_search::{
 };
 use std::alloc::Global;
 
-/// A place of a row, and what is put there.
+/// The index of a column, and the expression that it is set to.
 #[derive(Drop)]
 pub struct Assignment {
     place: usize,
@@ -67,7 +67,7 @@ fn any_has_unknown_column(scope: &Scope, sets: &[Set]) -> bool
     sets.iter().any(|set| set_has_unknown_column(scope, set))
 }
 
-/// Whether a column that is named is none of the table's.
+/// Whether SET or WHERE names a column that the table does not have.
 fn names_unknown_column(scope: &Scope, sets: &[Set], when: &Option<Cond>) -> bool
     ensures { result ≡ (list_any (updates.set_has_unknown_column scope.now) sets.now || scopes.where_has_unknown_column scope.now when.now) }
 {
@@ -86,7 +86,7 @@ fn any_mixes_kinds(scope: &Scope, sets: &[Set]) -> bool
     sets.iter().any(|set| set_mixes_kinds(scope, set))
 }
 
-/// Whether kinds do not agree.
+/// Whether kinds do not agree in SET or WHERE.
 fn has_mixed_kinds(scope: &Scope, sets: &[Set], when: &Option<Cond>) -> bool
     ensures { result ≡ (list_any (updates.set_mixes_kinds scope.now) sets.now || scopes.where_mixes_kinds scope.now when.now) }
 {
@@ -131,7 +131,7 @@ fn assignments_of(alloc: Global, scope: &Scope, sets: &[Set]) -> Result<Vec<Assi
     Ok(made)
 }
 
-/// The value of an expression in a row; none where it lies outside 64 bits.
+/// The value of an expression in a row; none if it does not fit 64 bits.
 fn value_in(alloc: Global, value: &Formula, row: &[Value]) -> Result<Option<Value>, NoMemory>
     ensures { IfOk result (λ found. found ≡ cond (is_out_of_range (value_of row.now (formula value.now))) None (Some (value_of row.now (formula value.now)))) }
 {
@@ -150,7 +150,7 @@ fn put(values: &mut Vec<Value>, place: usize, value: Value)
     }
 }
 
-/// The row with its new values, all computed from the old row; none where one lies outside 64 bits.
+/// The row with its new values, all computed from the old row; none if one does not fit 64 bits.
 fn assigned(alloc: Global, row: &[Value], assigns: &[Assignment]) -> Result<Option<Row>, NoMemory>
     ensures { IfOk result (λ new. new ≡ cond (updates.overflows (assignments assigns.now) row.now) None (Some (updates.assigned (assignments assigns.now) row.now))) }
 {
@@ -164,7 +164,7 @@ fn assigned(alloc: Global, row: &[Value], assigns: &[Assignment]) -> Result<Opti
     Ok(Some(Row::from_vec(values)))
 }
 
-/// The changes that give the rows their new values; none where one lies outside 64 bits.
+/// The changes that give the rows their new values; none if one does not fit 64 bits.
 fn new_rows(
     alloc: Global,
     place: usize,
@@ -186,7 +186,8 @@ fn new_rows(
     Ok(Some(changes))
 }
 
-/// How many rows meet the condition, where an expression is an INTEGER of 64 bits in each of them.
+/// The number of rows that meet the condition, if the expression is an INTEGER that fits 64 bits in each of
+/// them.
 fn count_integers(view: &View, condition: &Option<Predicate>, value: &Formula) -> Option<usize>
     ensures { IfSome result (λ count. CountsIntegers (formula value.now) (filter (satisfies condition.now) view.now.rows) count) }
 {
@@ -198,7 +199,8 @@ fn count_integers(view: &View, condition: &Option<Predicate>, value: &Formula) -
     Some(count)
 }
 
-/// How many rows are changed in their places: many of a table's, which are given an INTEGER of 64 bits in one column, and nothing else.
+/// The number of rows that the UPDATE changes in place. It changes in place where it sets one column to an
+/// INTEGER that fits 64 bits, in many rows of the table.
 fn count_in_place(
     view: &View,
     condition: &Option<Predicate>,
@@ -221,7 +223,7 @@ fn count_in_place(
     }
 }
 
-/// One assignment, made in place.
+/// The change that makes the one assignment in place.
 fn in_place(mut assigns: Vec<Assignment>, condition: Option<Predicate>, written: u64) -> Change
     requires { length assigns.items ≡ 1 }
     ensures { SetsInPlace (assignments assigns.items) condition written result }
@@ -239,7 +241,7 @@ fn in_place(mut assigns: Vec<Assignment>, condition: Option<Predicate>, written:
     }
 }
 
-/// What gives the rows that meet the condition their new values.
+/// The change that gives the rows which meet the condition their new values.
 fn with_new_values(
     alloc: Global,
     view: &View,
@@ -268,7 +270,7 @@ fn with_new_values(
     }
 }
 
-/// What carries out assignments that may be made.
+/// The change that carries out assignments which passed the checks.
 fn with_assignments(
     alloc: Global,
     view: &View,
@@ -286,7 +288,8 @@ fn with_assignments(
     Ok(decided)
 }
 
-/// How an UPDATE is to change a table; in place only where it is free of drafts.
+/// Gives the change of an UPDATE to a table, or its first refusal. A change in place is chosen only if
+/// `is_undrafted`: no transaction has a draft of the table. Fails only with `NoMemory`.
 pub fn updated(
     alloc: Global,
     view: &View,

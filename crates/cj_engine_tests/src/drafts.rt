@@ -1,4 +1,4 @@
-//! Backends that are dumped, and what is loaded of that.
+//! Backends that are dumped, and loaded from the dump.
 
 ghost use Rattle.std.specs.Prelude.{◌≡◌, [], ◌∷◌, Contains};
 
@@ -23,8 +23,7 @@ fn change<B: Backend>(rt: &impl Abort, alloc: Global, backend: &mut B, login: &T
     assert!(rt; given.is_ok(), "{text}");
 }
 
-/// The number of rows that transaction `tx`, 0 for none, sees of the table, and the sum of their
-/// values.
+/// The number of rows that transaction `tx`, 0 for none, sees of the table, and the sum of their values.
 fn totals<B: Backend>(
     rt: &impl Abort,
     alloc: Global,

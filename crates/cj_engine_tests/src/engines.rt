@@ -16,7 +16,7 @@ use std::alloc::Global;
 use std::process::Abort;
 use std::test::Fail;
 
-/// The transaction, 0 for none, and what is asked in it.
+/// The steps of the test: each a transaction, 0 for none, and a request in it.
 const STEPS: [&str; 103] = [
     "0 SELECT * FROM index",
     "0 DROP TABLE index",
@@ -123,7 +123,7 @@ const STEPS: [&str; 103] = [
     "7 INSERT INTO check VALUES (4)",
 ];
 
-/// What is asked of a database that was loaded, in which transaction 7 has a draft.
+/// The requests to a loaded database in which transaction 7 has a draft.
 const LATER: [&str; 10] = [
     "0 SELECT * FROM check",
     "7 SELECT * FROM check",
@@ -137,7 +137,7 @@ const LATER: [&str; 10] = [
     "0 DELETE FROM check WHERE k > 3",
 ];
 
-/// What a request comes to.
+/// The result of a request.
 #[derive(Drop)]
 enum Came {
     Ended,
@@ -187,7 +187,7 @@ fn begin(backend: &mut AnyBackend, begun: &mut Vec<u64>, user: &Text, tx: u64) -
     Ok(())
 }
 
-/// The transaction has ended.
+/// Removes a transaction that has ended from those begun.
 fn forget(begun: &mut Vec<u64>, tx: u64)
     ensures { begun.new.items ≡ filter (λ t. not (t == tx)) begun.old.items }
 {
@@ -301,7 +301,7 @@ fn step_of(step: &str) -> Result<(u64, &str), Fail> {
     }
 }
 
-/// Both answer each of the steps alike.
+/// Runs each step on both backends, whose answers must be alike.
 fn compared(
     rt: &impl Abort,
     alloc: Global,
@@ -320,7 +320,7 @@ fn compared(
     Ok((one, other))
 }
 
-/// The lines of what the backend holds, and the backend with this loaded again.
+/// The audit lines of a backend, and the backend after its contents were loaded again.
 fn reloaded(alloc: Global, driven: Driven) -> Result<(Driven, Vec<u8>), Fail> {
     let Driven { mut backend, .. } = driven;
     let db = backend.contents()?;

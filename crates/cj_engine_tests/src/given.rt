@@ -1,4 +1,4 @@
-//! The requests that engines are given, as they are spelled.
+//! The requests for the engines, parsed from their texts.
 
 ghost use Rattle.cj_model.specs.Sql.WrittenRequests.{IsWritten};
 

@@ -1,6 +1,10 @@
-//! Tests of engines: what each backend makes of statements, beside the other and beside a list of answers.
+//! Tests of engines: a backend over SQLite and one in memory must answer the same statements alike.
 //!
-//! Nothing but tests stands here, so that each crate of functions is proved once.
+//! The crate has only tests, so that each crate of functions is proved once. It promises nothing. `engines` runs
+//! a list of statements on both backends and compares replies and contents. `drafts` dumps a backend with a draft
+//! and loads it into others. `given` parses the requests.
+//!
+//! A new statement of SQL belongs in the lists of `engines`. The one proof is in `proofs/engines`.
 #![tactic(auto)]
 
 #[cfg(test)]

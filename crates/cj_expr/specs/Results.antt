@@ -21,39 +21,41 @@ use Rattle.cj_expr.specs.declared.formula.ValueError.{ValueError}
 use Rattle.cj_expr.specs.declared.formula.ValueError.TheVariants as value_error
 use Rattle.cj_expr.specs.Shapes.{formula}
 
--- the condition by places, or the first refusal
+-- the condition with columns by index, or the first refusal: an unknown column, else kinds that differ
 abbrev pub bound_condition : Scope → Condition → Result by_place.Predicate Refusal
 bound_condition scope c =
     refuse_if (has_unknown_column scope c) (refusal_of_code NO_COLUMN)
     (refuse_if (mixes_kinds scope c) (refusal_of_code WRONG_TYPE)
     (Ok (predicate_of scope c)))
 
--- the expression by places, or the first refusal
+-- the expression with columns by index, or the first refusal: an unknown column, else a TEXT under `+` or `-`
 abbrev pub bound_expr : Scope → Expr → Result by_place.Formula Refusal
 bound_expr scope e =
     refuse_if (expr_has_unknown_column scope e) (refusal_of_code NO_COLUMN)
     (refuse_if (adds_text scope e) (refusal_of_code WRONG_TYPE)
     (Ok (formula_of scope e)))
 
--- what is expected is given, seen so; only where nothing is refused may there be no memory for it
+-- the result is the expected one in this sight; an allocation may fail only where nothing is refused
 abbrev pub GivesBy : {A B : Type 0} → (B → A) → Result A Refusal → Result B BindError → Type 0
 GivesBy sight expected (Ok x) = expected ≡ Ok (sight x)
 GivesBy sight expected (Err (bind_error.Refused r)) = expected ≡ Err r
 GivesBy sight expected (Err bind_error.NoMemory) = IsOk expected
 
+-- the result is the expected condition or refusal; an allocation may fail only where nothing is refused
 abbrev pub GivesPredicate : Result by_place.Predicate Refusal → Result by_place.Predicate BindError → Type 0
 GivesPredicate = GivesBy (λ p. p)
 
+-- the result is the expected expression or refusal; an allocation may fail only where nothing is refused
 abbrev pub GivesFormula : Result by_place.Formula Refusal → Result Formula BindError → Type 0
 GivesFormula = GivesBy formula
 
--- the value, where it lies within 64 bits; there may be no memory for it
+-- the result is the value where it fits 64 bits, else Overflow; an allocation may fail in both cases
 abbrev pub IsValueOf : Value → Result Value ValueError → Type 0
 IsValueOf v (Ok w) = (is_out_of_range v ≡ false) × (w ≡ v)
 IsValueOf v (Err value_error.Overflow) = is_out_of_range v ≡ true
 IsValueOf v (Err value_error.NoMemory) = ⊤
 
--- the INTEGER that a value is, where it has 64 bits
+-- the INTEGER that a value is, where it fits 64 bits; none for a TEXT
 abbrev pub integer_within : Value → Option ℤ
 integer_within (Int z) = if is_out_of_range (Int z) then None else Some z
 integer_within (Text t) = None

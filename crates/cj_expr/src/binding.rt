@@ -1,4 +1,4 @@
-//! Names bound to places.
+//! Names bound to column indexes.
 
 ghost use Rattle.std.specs.Prelude.{◌≡◌, IfOk};
 ghost use Rattle.cj_model.specs.Proving.ConditionNodes as conditions;
@@ -17,10 +17,10 @@ use cj_model::{
 use std::alloc::Global;
 use thiserror::Error;
 
-/// Why a condition or an expression is not bound.
+/// Why a condition or an expression can't be bound.
 #[derive(Clone, Copy, Debug, PartialEq, Eq, Error)]
 pub enum BindError {
-    /// A column is not there (23), or kinds do not agree (28).
+    /// 23 for an unknown column, 28 for kinds that do not agree.
     #[error("refused with code {}", .0.code)]
     Refused(Refusal),
     #[error("out of memory")]
@@ -55,7 +55,8 @@ fn operand_of(alloc: Global, term: &Term, scope: &Scope) -> Result<Operand, NoMe
     }
 }
 
-/// The expression with its columns by place. A column that is not there stands for the first.
+/// Binds an expression, each column to its index in `scope`. An unknown column becomes the first one;
+/// `bind_expr` refuses it instead. Fails only with `NoMemory`.
 pub fn formula_of(alloc: Global, expr: &Expr, scope: &Scope) -> Result<Formula, NoMemory>
     ensures { IfOk result (λ formula. shapes.formula formula ≡ scopes.formula_of scope.now expr.now) }
 {
@@ -92,7 +93,7 @@ fn compare_of(
     boxed(alloc, PredicateNode::Compare(cmp, left, right))
 }
 
-/// The node in its box, so that a level of the recursion takes little of the stack.
+/// Binds a node of a condition, in a box, so that each level of the recursion needs little stack.
 fn node_of(alloc: Global, cond: &CondNode, scope: &Scope) -> Result<Box<PredicateNode>, NoMemory>
     ensures { IfOk result (λ node. shapes.predicate_of_node node.value ≡ scopes.predicate_of scope.now (conditions.condition_of_node cond.now)) }
 {
@@ -115,7 +116,8 @@ fn node_of(alloc: Global, cond: &CondNode, scope: &Scope) -> Result<Box<Predicat
     }
 }
 
-/// The condition with its columns by place. A column that is not there stands for the first.
+/// Binds a condition, each column to its index in `scope`. An unknown column becomes the first one; `bind`
+/// refuses it instead. Fails only with `NoMemory`.
 pub fn predicate_of(alloc: Global, cond: &Cond, scope: &Scope) -> Result<Predicate, NoMemory>
     ensures { IfOk result (λ predicate. predicate ≡ scopes.predicate_of scope.now cond.now) }
 {
@@ -123,8 +125,8 @@ pub fn predicate_of(alloc: Global, cond: &Cond, scope: &Scope) -> Result<Predica
     Ok(Predicate::of(Box::into_inner(root)))
 }
 
-/// The condition with its columns by place. Refused with 23 where a column is not there, else with
-/// 28 where the sides of a comparison differ in kind.
+/// Binds a condition to the columns of `scope`. Refuses with 23 if a column is unknown, else with 28 if the
+/// sides of a comparison differ in kind. `NoMemory` is answered only where nothing is refused.
 pub fn bind(alloc: Global, cond: &Cond, scope: &Scope) -> Result<Predicate, BindError>
     ensures { GivesPredicate (bound_condition scope.now cond.now) result }
 {
@@ -137,8 +139,8 @@ pub fn bind(alloc: Global, cond: &Cond, scope: &Scope) -> Result<Predicate, Bind
     Ok(predicate_of(alloc, cond, scope)?)
 }
 
-/// The expression with its columns by place. Refused with 23 where a column is not there, else with
-/// 28 where `+` or `-` has a TEXT.
+/// Binds an expression to the columns of `scope`. Refuses with 23 if a column is unknown, else with 28 if a
+/// TEXT is under `+` or `-`. `NoMemory` is answered only where nothing is refused.
 pub fn bind_expr(alloc: Global, expr: &Expr, scope: &Scope) -> Result<Formula, BindError>
     ensures { GivesFormula (bound_expr scope.now expr.now) result }
 {

@@ -1,4 +1,4 @@
-//! Whether the columns that a statement names are there, and whether its kinds agree.
+//! Whether the columns that a statement names exist, and whether its kinds agree.
 
 ghost use Rattle.std.specs.Prelude.{◌≡◌};
 ghost use Rattle.cj_model.specs.Proving.ConditionNodes.{condition_of_node};
@@ -8,7 +8,7 @@ ghost use Rattle.cj_model.specs.Database.Tables as tables;
 use crate::scope::Scope;
 use cj_model::{ColRef, Cond, CondNode, Expr, Kind, Term};
 
-/// Whether the two are one kind.
+/// Whether two kinds are equal.
 pub fn same_kind(one: Kind, two: Kind) -> bool
     ensures { result ≡ tables.same_kind one two }
 {
@@ -21,7 +21,7 @@ pub fn same_kind(one: Kind, two: Kind) -> bool
 }
 
 impl Scope {
-    /// Whether the reference means no column.
+    /// Whether the reference determines no column of the scope.
     pub fn is_unknown_column(&self, reference: &ColRef) -> bool
         ensures { result ≡ scopes.is_unknown_column self.now reference.now }
     {
@@ -39,7 +39,7 @@ impl Scope {
         }
     }
 
-    /// Whether an expression names a column that is not there.
+    /// Whether the expression names an unknown column.
     pub fn expr_has_unknown_column(&self, expr: &Expr) -> bool
         ensures { result ≡ scopes.expr_has_unknown_column self.now expr.now }
     {
@@ -66,7 +66,7 @@ impl Scope {
         }
     }
 
-    /// Whether a condition names a column that is not there.
+    /// Whether the condition names an unknown column.
     pub fn has_unknown_column(&self, cond: &Cond) -> bool
         ensures { result ≡ scopes.has_unknown_column self.now cond.now }
     {
@@ -101,7 +101,7 @@ impl Scope {
         same_kind(self.kind_of_term(term), Kind::Text)
     }
 
-    /// Whether `+` or `-` has a TEXT.
+    /// Whether the expression has a TEXT under `+` or `-`.
     pub fn adds_text(&self, expr: &Expr) -> bool
         ensures { result ≡ scopes.adds_text self.now expr.now }
     {
@@ -128,7 +128,7 @@ impl Scope {
         }
     }
 
-    /// Whether the sides of a comparison differ in kind.
+    /// Whether the sides of some comparison in the condition differ in kind.
     pub fn mixes_kinds(&self, cond: &Cond) -> bool
         ensures { result ≡ scopes.mixes_kinds self.now cond.now }
     {

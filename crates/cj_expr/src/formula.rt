@@ -1,4 +1,4 @@
-//! Expressions with columns by their places.
+//! Expressions with columns by index.
 
 ghost use Rattle.std.specs.Prelude.{◌≡◌, pos, IfOk};
 ghost use Rattle.cj_model.specs.Database.Evaluation.{value_of};
@@ -21,7 +21,7 @@ pub enum Formula {
 /// Why an expression has no value.
 #[derive(Clone, Copy, Debug, PartialEq, Eq, Error)]
 pub enum ValueError {
-    /// It is an INTEGER outside 64 bits.
+    /// The value is an INTEGER outside 64 bits.
     #[error("a number lies outside 64 bits")]
     Overflow,
     #[error("out of memory")]
@@ -39,7 +39,7 @@ impl From<NoMemory> for ValueError {
     }
 }
 
-/// The number in 64 bits, if it has no more.
+/// The number as an `i64`; none outside 64 bits.
 fn within(number: i128) -> Option<i64>
     ensures { result ≡ integer_within (Value.Int number) }
 {
@@ -49,7 +49,7 @@ fn within(number: i128) -> Option<i64>
     Some(number as i64)
 }
 
-/// The number as a value; Overflow exactly where it lies outside 64 bits.
+/// The number as an INTEGER. Fails with `Overflow` if it is outside 64 bits.
 pub fn narrowed(number: i128) -> Result<Value, ValueError>
     ensures { IsValueOf (Value.Int number) result }
 {
@@ -72,7 +72,8 @@ fn difference(left: &Operand, right: &Operand, row: &[Value]) -> i128
 }
 
 impl Formula {
-    /// The value in a row; Overflow exactly where it is an INTEGER outside 64 bits.
+    /// The expression's value in a row. Fails with `Overflow` if that is an INTEGER outside 64 bits, and
+    /// with `NoMemory` if a copy can't be allocated.
     pub fn value_in(&self, alloc: Global, row: &[Value]) -> Result<Value, ValueError>
         ensures { IsValueOf (value_of row.now (formula self.now)) result }
     {
@@ -83,7 +84,7 @@ impl Formula {
         }
     }
 
-    /// The INTEGER in a row, which takes no memory; none where it is a TEXT, or lies outside 64 bits.
+    /// The expression's INTEGER in a row, without allocation; none for a TEXT and outside 64 bits.
     pub fn integer_in(&self, row: &[Value]) -> Option<i64>
         ensures { result ≡ integer_within (value_of row.now (formula self.now)) }
     {

@@ -1,4 +1,4 @@
-//! Where the rows that meet a condition may stand, by their values at one place.
+//! Which values the rows that meet a condition may have at an index.
 
 ghost use Rattle.std.specs.Prelude.{◌≡◌, Some, true, option_copied};
 ghost use Rattle.std.specs.Ordering.{is_gt};
@@ -12,12 +12,12 @@ ghost use Rattle.cj_expr.specs.Shapes.{operand};
 use crate::operand::Operand;
 use cj_model::{Cmp, Value};
 
-/// A range of values, none of which a row has that meets a condition and stands below the start.
+/// A range of values of a column, such that no row which meets a condition has a value below the start.
 #[derive(Clone, Copy)]
 pub struct Reach<'a> {
-    /// The least value; none where the range has no start.
+    /// The least value; none if the range has no lower bound.
     pub start: Option<&'a Value>,
-    /// The value behind which it is worth while to ask for another range; none where it is not.
+    /// The value above which another range is worth asking for; none if no other range is.
     pub end: Option<&'a Value>,
 }
 
@@ -41,7 +41,7 @@ fn sooner<'a>(left: Option<&'a Value>, right: Option<&'a Value>) -> Option<&'a V
     }
 }
 
-/// Whether the one start is not above the other.
+/// Whether the first start is not above the second, where a missing start is below each value.
 fn starts_first(one: Option<&Value>, two: Option<&Value>) -> bool
     ensures { result ≡ reaches.starts_first (option_copied one.entry) (option_copied two.entry) }
 {
@@ -53,7 +53,7 @@ fn starts_first(one: Option<&Value>, two: Option<&Value>) -> bool
 }
 
 impl<'a> Reach<'a> {
-    /// All values.
+    /// The range of all values.
     pub fn all() -> Reach<'a>
         ensures { (v : Value) → reaches.is_reached (Some result) v ≡ true }
     {
@@ -63,7 +63,7 @@ impl<'a> Reach<'a> {
         }
     }
 
-    /// What both have.
+    /// A range that has each value which both ranges have.
     pub fn meet(self, other: Reach<'a>) -> Reach<'a>
         ensures { IsCommon (Some self.entry) (Some other.entry) (Some result) }
     {
@@ -73,7 +73,7 @@ impl<'a> Reach<'a> {
         }
     }
 
-    /// The one that starts first.
+    /// The one of two ranges that starts first. No value of either range is below its start.
     pub fn first(self, other: Reach<'a>) -> Reach<'a>
         ensures left { IsAsWide (Some result) (Some self.entry) }
         ensures right { IsAsWide (Some result) (Some other.entry) }
@@ -93,7 +93,7 @@ fn is_past(key: &Value, value: &Value) -> bool
     key.cmp(value).is_gt()
 }
 
-/// The values from `key` on that are this one.
+/// The range of the values from `key` on that equal `value`; none if `key` is above it.
 fn exactly<'a>(value: &'a Value, key: &Value) -> Option<Reach<'a>>
     ensures { ReachesAll key.now (holds_to Cmp.Eq value.now) result }
 {
@@ -106,7 +106,7 @@ fn exactly<'a>(value: &'a Value, key: &Value) -> Option<Reach<'a>>
     })
 }
 
-/// The values from `key` up to this one.
+/// The range of the values from `key` up to `value`; none if `key` is above it.
 fn up_to<'a>(value: &'a Value, key: &Value) -> Option<Reach<'a>>
     ensures below { ReachesAll key.now (holds_to Cmp.Lt value.now) result }
     ensures at { ReachesAll key.now (holds_to Cmp.Le value.now) result }
@@ -120,7 +120,7 @@ fn up_to<'a>(value: &'a Value, key: &Value) -> Option<Reach<'a>>
     })
 }
 
-/// The values from this one on.
+/// The range of the values from `value` on.
 fn onward(value: &Value) -> Reach<'_>
     ensures above { (key : Value) → ReachesAll key (holds_to Cmp.Gt value.now) (Some result) }
     ensures at { (key : Value) → ReachesAll key (holds_to Cmp.Ge value.now) (Some result) }
@@ -131,7 +131,7 @@ fn onward(value: &Value) -> Reach<'_>
     }
 }
 
-/// The values from `key` on that stand in this relation to a value.
+/// The range of the values from `key` on that are in the relation `cmp` to `value`; none if there are none.
 fn reach_to<'a>(cmp: Cmp, value: &'a Value, key: &Value) -> Option<Reach<'a>>
     ensures { ReachesAll key.now (holds_to cmp value.now) result }
 {
@@ -145,7 +145,7 @@ fn reach_to<'a>(cmp: Cmp, value: &'a Value, key: &Value) -> Option<Reach<'a>>
     }
 }
 
-/// The relation in which the right side stands to the left one.
+/// The relation with its sides exchanged: `a < b` is `b > a`.
 fn flipped(cmp: Cmp) -> Cmp
     ensures { result ≡ reaches.flipped cmp }
 {
@@ -159,7 +159,8 @@ fn flipped(cmp: Cmp) -> Cmp
     }
 }
 
-/// The values from `key` on that a row may have at a place where a comparison holds.
+/// The range of the values from `key` on that a row may have at index `place` where the comparison holds.
+/// None if no such row exists.
 #[tactic(auto, using(crate::proofs::ReachLaws::reaches_left, crate::proofs::ReachLaws::reaches_right, crate::proofs::ReachLaws::reaches_each))]
 pub fn reach_of_comparison<'a>(
     cmp: Cmp,
@@ -181,7 +182,7 @@ pub fn reach_of_comparison<'a>(
     }
 }
 
-/// What rows that meet both conditions reach, of which each reaches so far.
+/// The range for a conjunction, from the ranges of its sides. None if either side has none.
 pub fn reach_of_both<'a>(left: Option<Reach<'a>>, right: Option<Reach<'a>>) -> Option<Reach<'a>>
     ensures { IsCommon left.entry right.entry result }
 {
@@ -192,7 +193,7 @@ pub fn reach_of_both<'a>(left: Option<Reach<'a>>, right: Option<Reach<'a>>) -> O
     }
 }
 
-/// What rows that meet one of the conditions reach, of which each reaches so far.
+/// The range for a disjunction, from the ranges of its sides. None if both sides have none.
 pub fn reach_of_either<'a>(left: Option<Reach<'a>>, right: Option<Reach<'a>>) -> Option<Reach<'a>>
     ensures left { IsAsWide result left.entry }
     ensures right { IsAsWide result right.entry }

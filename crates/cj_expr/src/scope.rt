@@ -9,8 +9,8 @@ use cj_model::{ColRef, Column, Duplicate, Kind, Name, NoMemory, Schema};
 use std::alloc::Global;
 use std::marker::Model;
 
-/// The columns of the tables that a statement names, each with its table's name, in the order of
-/// the values of these tables' rows side by side.
+/// The columns of a statement's tables, each with its table's name. Their order is that of the values in
+/// the tables' rows, one row after the other.
 #[derive(Drop)]
 pub struct Scope {
     columns: Vec<(Name, Column)>,
@@ -37,7 +37,7 @@ fn push_columns(
     Ok(())
 }
 
-/// Whether the reference has the column's name, and its table's or none.
+/// Whether the reference has the column's name, and either its table's name or no table.
 fn may_mean(reference: &ColRef, column: &(Name, Column)) -> bool
     ensures { result ≡ scopes.may_mean reference.now column.now }
 {
@@ -50,7 +50,7 @@ fn may_mean(reference: &ColRef, column: &(Name, Column)) -> bool
 }
 
 impl Scope {
-    /// The scope of a statement over these tables.
+    /// The scope of a statement over these tables, in this order. Fails only with `NoMemory`.
     pub fn of(alloc: Global, schemas: &[&Schema]) -> Result<Scope, NoMemory>
         ensures { IfOk result (λ scope. scope ≡ scope_of (map deref schemas.now)) }
     {
@@ -61,7 +61,7 @@ impl Scope {
         Ok(Scope { columns })
     }
 
-    /// The place of the column that is meant; none where there is no such column, or more than one.
+    /// The index of the column that the reference names. None if no column or more than one matches.
     pub fn place(&self, reference: &ColRef) -> Option<usize>
         ensures { result ≡ place_of self.now reference.now }
     {
@@ -77,14 +77,14 @@ impl Scope {
         found
     }
 
-    /// The columns, each with its table's name.
+    /// The columns in order, each with its table's name.
     pub fn columns(&self) -> &[(Name, Column)]
         ensures { result.now ≡ self.now }
     {
         &self.columns
     }
 
-    /// The kind of the column at a place.
+    /// The kind of the column at index `place`; INTEGER past the last column.
     pub fn kind(&self, place: usize) -> Kind
         ensures { result ≡ column_kind_at self.now place }
     {

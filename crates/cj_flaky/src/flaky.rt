@@ -6,26 +6,25 @@ use cj_backend::{Backend, BackendError, Counts};
 use cj_model::{Asked, Create, Db, ListOf, Name, Outcome, Select, Text, Write};
 use std::marker::Model;
 
-/// A backend that passes calls on to another one, but for those that are to fail.
+/// A backend that passes calls on to another one, except for those that are to fail.
 ///
-/// Calls of `begin`, `write`, `create`, `drop_table`, `commit`, `abort`, `ask`, `contents` and `load`
-/// are numbered from 1, up to 2^64 - 1, where the number stays. A call answers `Failed` exactly
-/// where its number is listed, it is the next numbered call after `arm`, or the inner backend
-/// answers so. A listed or armed call passes nothing on and counts one fault; where it is a change,
-/// a load among them, nothing is told from then on until a load is carried out. Any other call
-/// gives what the inner backend gives. Faults are counted together with those of the inner
-/// backend, up to 2^64 - 1.
+/// Calls of `begin`, `write`, `create`, `drop_table`, `commit`, `abort`, `ask`, `contents` and `load` are
+/// numbered from 1 up to 2^64 - 1, where the number stays. A call is to fail if and only if its number is
+/// listed or it is the next numbered call after `arm`. It then answers `Failed`, passes nothing on and
+/// counts one fault. If it is a change, a load among them, contracts do not see the contents until a load
+/// is carried out. Any other call gives what the inner backend gives, `Failed` included. Faults are counted
+/// together with those of the inner backend, up to 2^64 - 1.
 #[derive(Drop)]
 pub struct Flaky<B: Backend> {
     inner: B,
     fails: ListOf<u64>,
     calls: u64,
     armed: bool,
-    /// How often it was armed, up to 2^64 - 1.
+    /// How often the backend was armed, up to 2^64 - 1.
     armings: u64,
     /// Whether each change since the last load that was carried out was passed on.
     passed: bool,
-    /// The calls that failed here, up to 2^64 - 1.
+    /// The number of calls that failed here, up to 2^64 - 1.
     faults: u64,
 }
 
@@ -40,7 +39,7 @@ impl<B: Backend> Model for Flaky<B> {
 impl<B: Backend> Flaky<B> {
     ghost use Rattle.cj_flaky.specs.FlakyBackends.{EntersAsListed, EntersChange, IsToFail, fresh_over, numbered};
 
-    /// Over this backend; the calls with the numbers in `fails` fail.
+    /// Wraps a backend; the calls whose numbers are in `fails` will fail.
     pub fn new(backend: B, fails: ListOf<u64>) -> Flaky<B>
         ensures { result ≡ fresh_over backend fails }
     {
@@ -55,14 +54,14 @@ impl<B: Backend> Flaky<B> {
         }
     }
 
-    /// The inner backend, as it stands.
+    /// The inner backend in its present state.
     pub fn inner(&self) -> &B
         ensures { result.now ≡ self.now.inner }
     {
         &self.inner
     }
 
-    /// The inner backend, which is not told of the calls that failed here.
+    /// Unwraps the inner backend, which lacks the calls that failed here.
     pub fn into_inner(self) -> B
         ensures { result ≡ self.inner }
     {
@@ -70,7 +69,7 @@ impl<B: Backend> Flaky<B> {
         inner
     }
 
-    /// Numbers the next call and answers whether it is to fail.
+    /// Numbers the next call, and says whether it is to fail.
     fn is_next_to_fail(&mut self) -> bool
         ensures fails { IsTrue result ↔ IsToFail self.old }
         ensures numbered { self.new ≡ numbered self.old }
@@ -82,7 +81,7 @@ impl<B: Backend> Flaky<B> {
         fails
     }
 
-    /// Enters the next call, unless it is to fail.
+    /// Enters the next call. Answers `Failed` and counts a fault if the call is to fail.
     fn enter(&mut self) -> Result<(), BackendError>
         ensures { EntersAsListed self.old result self.new }
     {
@@ -93,7 +92,7 @@ impl<B: Backend> Flaky<B> {
         Ok(())
     }
 
-    /// Enters a change, after which nothing is told unless it is passed on.
+    /// Enters a change. If it is to fail, contracts do not see the contents until a load is carried out.
     fn enter_change(&mut self) -> Result<(), BackendError>
         ensures { EntersChange self.old result self.new }
     {
@@ -253,7 +252,8 @@ impl<B: Backend> Backend for Flaky<B> {
         self.inner.contents()
     }
 
-    /// The inner backend then holds what was loaded, whatever was not passed on to it before.
+    /// After a load that is carried out the inner backend holds the loaded database, whatever changes it
+    /// lacked before.
     fn load(&mut self, db: Db) -> Result<(), BackendError>
         requires { IsStorable db }
         ensures told { told_by B.told self.new ≡ told_loaded B.tells db result }
@@ -283,7 +283,7 @@ impl<B: Backend> Backend for Flaky<B> {
         self.inner.login()
     }
 
-    /// The next numbered call fails. The inner backend is not armed.
+    /// Arms this backend: the next numbered call fails. The inner backend is not armed.
     fn arm(&mut self)
         ensures { self.new ≡ record self.old { armed = true; armings = next self.old.armings } }
     {

@@ -5,17 +5,17 @@ ghost use Rattle.std.specs.Prelude.{◌≡◌};
 use cj_backend::{Backend, BackendError, Counts};
 use cj_model::{Asked, Create, Db, Name, Outcome, Select, Text, Write};
 
-/// What a call waits at before it goes on.
+/// A gate at which calls wait before they go on.
 pub trait Gate {
-    /// Is called before each query.
+    /// Called before each query.
     fn pass(&mut self);
 
-    /// Is called before each write.
+    /// Called before each write; does nothing by default.
     fn pass_write(&mut self) {}
 }
 
-/// A backend that passes every call on to another one, and tells what that tells. Before each query
-/// and each write it passes its gate.
+/// A backend that passes every call on to another one, and tells what that one tells. Before each query and
+/// each write it passes its gate.
 #[derive(Drop)]
 pub struct Gated<B: Backend, G: Gate> {
     inner: B,
@@ -23,7 +23,7 @@ pub struct Gated<B: Backend, G: Gate> {
 }
 
 impl<B: Backend, G: Gate> Gated<B, G> {
-    /// This backend behind this gate.
+    /// Wraps a backend with a gate.
     pub fn new(backend: B, gate: G) -> Gated<B, G>
         ensures { (result.inner ≡ backend) × (result.gate ≡ gate) }
     {

@@ -1,4 +1,11 @@
-//! Backends over another one: one whose chosen calls fail, and one whose queries and writes pass a gate.
+//! Backends that wrap another one: `Flaky` fails on command, `Gated` waits at a gate.
+//!
+//! `Flaky` answers `Failed` to calls that are listed by number or armed, and passes every other call on. `Gated`
+//! waits before each query and write, and passes every call on. The contracts are those of `cj_backend`; `Flaky`
+//! also says which calls fail and what the inner backend makes of the others.
+//!
+//! A new call of `cj_backend` needs an implementation in both files. The crate has no proofs of its own. Read
+//! `specs/FlakyBackends` first, in particular `FailsOrPasses`.
 #![tactic(auto)]
 
 mod flaky;

@@ -1,4 +1,4 @@
-//! Messages of bytes that come in pieces.
+//! Messages from bytes that come in pieces.
 
 ghost use Rattle.std.specs.Prelude.{◌≡◌, ◌≤◌, [], ◌++◌, drop, length, OnErr, OnOk};
 ghost use Rattle.cj_frame.specs.Feeding.{TakesMessage};
@@ -11,11 +11,11 @@ use std::marker::Model;
 
 /// Bytes that came in pieces, without those of the messages that were taken off.
 ///
-/// It holds no more than the frame at hand and the last piece.
+/// A feed holds no more than the current frame and the last piece.
 #[derive(Drop)]
 pub struct Feed {
     bytes: Vec<u8>,
-    /// How many bytes of taken messages still stand at the front.
+    /// The number of bytes at the front that belong to messages already taken off.
     at: usize,
 }
 
@@ -37,7 +37,7 @@ fn drop_front(bytes: &mut Vec<u8>, count: usize)
 }
 
 impl Feed {
-    /// A feed that holds no bytes.
+    /// A feed that holds no bytes, without allocation.
     pub fn new(alloc: Global) -> Feed
         ensures { result ≡ [] }
     {
@@ -47,14 +47,14 @@ impl Feed {
         }
     }
 
-    /// How many bytes it holds.
+    /// The number of bytes that the feed holds.
     pub fn rest(&self) -> u64
         ensures { result ≡ length self.now }
     {
         (self.bytes.len() - self.at) as u64
     }
 
-    /// Adds the piece at the end; want of memory leaves the bytes as they were.
+    /// Adds a piece at the end. `NoMemory` leaves the bytes unchanged.
     pub fn feed(&mut self, piece: &[u8]) -> Result<(), NoMemory>
         ensures ok { OnOk result (self.new ≡ self.old ++ piece.now) }
         ensures err { OnErr result (self.new ≡ self.old) }
@@ -66,9 +66,9 @@ impl Feed {
         Ok(())
     }
 
-    /// TakesMessage the first message off; `None` where the bytes begin with no whole frame and show no fault yet.
+    /// Takes the first message off. `None` if the bytes begin with no whole frame and show no fault yet.
     ///
-    /// A fault stays, and want of memory leaves the bytes as they were.
+    /// A fault stays. Any error leaves the bytes unchanged.
     pub fn next(&mut self, alloc: Global) -> Result<Option<Message>, FrameError>
         ensures { TakesMessage self.old self.new result }
     {

@@ -1,6 +1,11 @@
-//! Messages from the bytes of a client: what is the first message of some bytes, how far whole frames reach, and the messages of bytes that come in pieces.
+//! Decodes the messages of a client from the bytes of its frames.
 //!
-//! A frame is a length of four bytes, the most significant first, and so many bytes: a kind and its payload. The definitions are those of `cj_model`.
+//! A frame is a length of four bytes, most significant first, then a kind and a payload of that length together.
+//! `next_message` gives the first message of some bytes, `read_frames` all whole ones, `Feed` those of bytes that
+//! come in pieces. However the bytes were cut, the messages are the one reading of all bytes (`cj_model`).
+//!
+//! A new kind of message concerns `next` and `specs/Proving/Reading`. Read `specs/Next` and `specs/Feeding`
+//! first, then `proofs/Taken`, `proofs/Faults` and `proofs/Readings`.
 #![tactic(auto)]
 
 mod error;

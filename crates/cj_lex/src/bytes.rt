@@ -1,19 +1,20 @@
-//! Bytes by their class.
+//! Classes of bytes.
 
 ghost use Rattle.std.specs.Prelude.{◌≡◌, ◌≤◌, length};
 ghost use Rattle.cj_lex.specs.Proving.Cut as cut;
 
-/// What a byte may be part of.
+/// The classes of bytes that tokens consist of.
 #[derive(Clone, Copy)]
 pub enum Class {
     Blank,
     Digit,
-    /// What a word begins with.
+    /// The first byte of a word.
     Letter,
-    /// What a word goes on with.
+    /// A later byte of a word.
     Word,
 }
 
+/// Whether the byte is of the class.
 pub fn is_in(class: Class, b: u8) -> bool
     ensures { result ≡ cut.is_in class b }
 {
@@ -35,7 +36,7 @@ pub fn begins(class: Class, text: &[u8]) -> bool
     }
 }
 
-/// How many bytes at the front are of the class.
+/// The number of bytes at the front of the text that are of the class.
 #[tactic(auto, unfolding(crate::specs::Proving::Cut::count_of_class))]
 pub fn count(class: Class, text: &[u8]) -> usize
     ensures value { result ≡ cut.count_of_class class text.now }

@@ -6,7 +6,7 @@ use thiserror::Error;
 /// Why a text is not read.
 #[derive(Clone, Copy, Debug, PartialEq, Eq, Error)]
 pub enum SqlError {
-    /// The text isn't of the language, or is past one of its limits.
+    /// The text is not of the language, or exceeds one of its limits.
     #[error("not SQL")]
     Syntax,
     #[error("out of memory")]

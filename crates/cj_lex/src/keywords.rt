@@ -17,7 +17,7 @@ fn lookup(mut table: &[(&[u8], Keyword)], word: &[u8]) -> Option<Keyword>
     None
 }
 
-/// The reserved word of these bytes, which are in lower case.
+/// The reserved word with this spelling in lower case; none for other bytes.
 #[tactic(auto, unfolding(cj_model::specs::Sql::Lexical::keyword))]
 pub fn keyword(word: &[u8]) -> Option<Keyword>
     ensures { result ≡ lexical.keyword word.now }

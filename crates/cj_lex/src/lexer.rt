@@ -12,7 +12,8 @@ use crate::words::cut_word;
 use cj_model::Token;
 use std::alloc::Global;
 
-/// The token at the front, where no white space stands; none where the text is empty.
+/// The token at the front of a text without leading white space, and the text after it; none for an empty
+/// text.
 #[tactic(auto, unfolding(crate::specs::Proving::Cut::cut_at))]
 fn cut_at(alloc: Global, text: &[u8]) -> Result<Option<(Token, &[u8])>, SqlError>
     ensures { AnswersCut (cut.cut_at text.now) result }
@@ -37,7 +38,7 @@ fn cut_at(alloc: Global, text: &[u8]) -> Result<Option<(Token, &[u8])>, SqlError
     }
 }
 
-/// The first token and the text after it; none where there is nothing but white space.
+/// The first token of a text and the text after it; none if the text is white space only.
 #[tactic(auto, unfolding(crate::specs::Proving::Cut::first_token))]
 pub fn first(alloc: Global, text: &[u8]) -> Result<Option<(Token, &[u8])>, SqlError>
     ensures { AnswersCut (cut.first_token text.now) result }

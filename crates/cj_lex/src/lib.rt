@@ -1,4 +1,11 @@
-//! The tokens of SQL: a text's words, numbers, strings and symbols, each the longest that stands there.
+//! The lexer of SQL: a text becomes words, numbers, strings and symbols, each as long as possible.
+//!
+//! `read_tokens` gives the tokens that the grammar's spelling rules give (`cj_model`, `Sql/Lexical`). It is
+//! proved that a text has no other list of tokens. `Syntax` means that the text has none; an allocation may fail
+//! too.
+//!
+//! A new symbol concerns `symbols`, a new reserved word `keywords`, and both concern the spelling in `cj_model`.
+//! Read `specs/Read` first, then `proofs/Sound`, `proofs/Complete` and `proofs/OneReading`.
 #![tactic(auto)]
 
 mod bytes;

@@ -19,7 +19,7 @@ fn with_digit(n: u64, digit: u8) -> u64
         .saturating_add(u64::from(digit.saturating_sub(b'0')))
 }
 
-/// The number of the digits, or the largest `u64` where it is larger.
+/// The number that the digits spell, or the largest `u64` if that is smaller.
 fn value(digits: &[u8]) -> u64
     ensures { result ≡ min (lexical.number_spelled digits.now) (2 ^ 64 - 1) }
 {
@@ -30,7 +30,7 @@ fn value(digits: &[u8]) -> u64
     n
 }
 
-/// The number at the front of the text, which begins with a digit.
+/// Reads the number at the front of the text, which begins with a digit.
 #[tactic(auto, unfolding(crate::specs::Proving::Cut::cut_number))]
 pub fn cut_number(text: &[u8]) -> Result<(Token, &[u8]), SqlError>
     ensures { CutsOne (cut.cut_number text.now) result }

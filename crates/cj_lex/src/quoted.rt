@@ -8,7 +8,7 @@ use crate::error::SqlError;
 use cj_model::{TEXT_LIMIT, Text, Token};
 use std::alloc::{AllocError, Global};
 
-/// What stands before the closing quote, with each quote once, and the text after it.
+/// The string's bytes, each doubled quote once, and the text after the closing quote.
 type Closed<'a> = Option<(Vec<u8>, &'a [u8])>;
 
 #[tactic(auto, using(crate::proofs::Steps::behind_more))]
@@ -36,7 +36,7 @@ fn closing(alloc: Global, mut text: &[u8]) -> Result<Closed<'_>, AllocError>
     }
 }
 
-/// The string whose opening quote stands before this text.
+/// Reads a string whose opening quote was just before this text.
 #[tactic(auto, unfolding(crate::specs::Proving::Cut::cut_string))]
 pub fn cut_string(alloc: Global, text: &[u8]) -> Result<(Token, &[u8]), SqlError>
     ensures { CutsOne (cut.cut_string text.now) result }

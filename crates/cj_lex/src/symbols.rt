@@ -37,7 +37,7 @@ fn greater(text: &[u8]) -> Option<(Symbol, &[u8])>
     }
 }
 
-/// Two hyphens, which begin a comment elsewhere, are refused.
+/// The symbol that begins with a hyphen. Two hyphens, a comment in other SQL, are refused.
 fn hyphen(text: &[u8]) -> Option<(Symbol, &[u8])>
     ensures { CutsSymbol (cut.hyphen text.now) result }
 {
@@ -75,7 +75,7 @@ fn single(b: u8) -> Option<Symbol>
     }
 }
 
-/// The symbol that begins with the byte and may go on in the text.
+/// Reads the symbol that begins with byte `b` and may continue in `text`; none if there is no such symbol.
 #[tactic(auto, unfolding(crate::specs::Proving::Cut::cut_symbol))]
 pub fn cut_symbol(b: u8, text: &[u8]) -> Option<(Symbol, &[u8])>
     ensures { CutsSymbol (cut.cut_symbol b text.now) result }

@@ -8,7 +8,8 @@ use cj_model::Token;
 use std::alloc::Global;
 use std::collections::VecDeque;
 
-/// The tokens of the text; `Syntax` exactly where it has none. Each byte is read a bounded number of times.
+/// Gives the tokens of a text. Fails with `Syntax` if the text has no tokens of the language, and with
+/// `NoMemory` if an allocation fails. Each byte is read a bounded number of times.
 pub fn read_tokens(alloc: Global, text: &[u8]) -> Result<VecDeque<Token>, SqlError>
     ensures { TokensRead text.now result }
 {

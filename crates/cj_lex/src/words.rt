@@ -18,7 +18,8 @@ fn word_token(name: Name) -> Token
     }
 }
 
-/// The word at the front of the text, which begins with a letter. It is put into lower case in place.
+/// Reads the word at the front of the text, which begins with a letter. The word is put into lower case in
+/// place.
 #[tactic(auto, unfolding(crate::specs::Proving::Cut::cut_word))]
 pub fn cut_word(text: &[u8]) -> Result<(Token, &[u8]), SqlError>
     ensures { CutsOne (cut.cut_word text.now) result }

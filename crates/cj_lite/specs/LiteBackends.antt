@@ -12,38 +12,38 @@ use Rattle.cj_backend.specs.Backends.{Arming}
 use Rattle.cj_lite_tables.specs.declared.error.LiteError.{LiteError}
 use Rattle.cj_lite_tables.specs.declared.error.LiteError.TheVariants as lite
 
--- what it has counted; nothing is seen of what it holds
+-- the counts of a backend over SQLite; contracts see nothing of what it holds
 pub record LiteState : Type 0 where
   pub faults : ℕ
   pub asks : ℕ
   pub begun : List ℕ
   pub login : Option (List ℕ)
 
--- nothing counted
+-- the state of a new backend, which has counted nothing
 abbrev pub fresh_state : LiteState
 fresh_state = record { faults = 0; asks = 0; begun = []; login = None }
 
--- it tells nothing of what it holds
+-- what a backend over SQLite tells of its contents: nothing
 abbrev pub untold : Option (List Slot)
 untold = None
 
--- it can't be armed
+-- the arming of a backend over SQLite, which can't be armed
 abbrev pub never_armed : Arming
 never_armed = record { armed = false; times = 0 }
 
--- a call is entered under this login, or there is no memory for it
+-- a call is entered under this login, or an allocation fails and the state is unchanged
 abbrev pub Enters : LiteState → List ℕ → Result Unit BackendError → LiteState → Type 0
 Enters old user (Ok x) new = new ≡ record old { login = Some user }
 Enters old user (Err backend.Failed) new = ⊥
 Enters old user (Err backend.NoMemory) new = new ≡ old
 
--- a fault of the database is counted and answered, and want of memory is answered
+-- a fault of the database is counted and answered as Failed, and an allocation failure is answered as such
 abbrev pub EndsCall : {T : Type 0} → LiteState → Result T LiteError → Result T BackendError → LiteState → Type 0
 EndsCall old (Ok x) result new = (result ≡ Ok x) × (new ≡ old)
 EndsCall old (Err lite.Fault) result new = (result ≡ Err backend.Failed) × (new ≡ record old { faults = next old.faults })
 EndsCall old (Err lite.NoMemory) result new = (result ≡ Err backend.NoMemory) × (new ≡ old)
 
--- a transaction is added to those begun, or there is no memory for it
+-- the transaction is added to those begun, or an allocation fails and the state is unchanged
 abbrev pub AddsBegun : LiteState → ℕ → Result Unit BackendError → LiteState → Type 0
 AddsBegun old tx (Ok x) new = new ≡ record old { begun = old.begun ++ tx ∷ [] }
 AddsBegun old tx (Err backend.NoMemory) new = new ≡ old

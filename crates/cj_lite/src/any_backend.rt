@@ -5,7 +5,7 @@ use cj_backend::{Backend, BackendError, Counts};
 use cj_mem::MemBackend;
 use cj_model::{Asked, Create, Db, Name, Outcome, Select, Text, Write};
 
-/// A backend of either kind, which tells nothing of what it holds.
+/// A backend of either kind. Contracts see nothing of what it holds.
 #[derive(Drop)]
 pub enum AnyBackend {
     Mem(MemBackend),

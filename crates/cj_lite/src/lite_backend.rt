@@ -8,13 +8,12 @@ use cj_model::{Asked, Create, Db, Duplicate, Name, NoMemory, Outcome, Select, Te
 use std::alloc::Global;
 use std::marker::Model;
 
-/// A backend whose tables stand in a SQLite database in memory, which tells nothing of what it
-/// holds.
+/// A backend whose tables are in a SQLite database in memory. Contracts see nothing of what it holds.
 ///
-/// It fails where SQLite refuses a statement that was found right, or gives back what was never
-/// stored. What a statement means, and whether it is refused, is decided by the engine. A
-/// transaction's changes are kept beside SQLite and laid over what it gives; a commit makes them in
-/// one transaction of SQLite.
+/// A call fails if SQLite refuses a statement that the engine accepted, or gives back what was never
+/// stored. The engine decides what a statement means and whether it is refused. The changes of a
+/// transaction are kept beside SQLite and laid over its rows; a commit makes them in one transaction of
+/// SQLite.
 #[derive(Drop)]
 pub struct LiteBackend {
     alloc: Global,
@@ -51,7 +50,7 @@ fn remove(begun: &mut Vec<u64>, tx: u64)
 impl LiteBackend {
     ghost use Rattle.cj_lite.specs.LiteBackends.{AddsBegun, EndsCall, Enters, fresh_state};
 
-    /// A backend of no tables, which takes its memory from here.
+    /// A backend without tables, which allocates from `alloc`. Fails only with `NoMemory`.
     pub fn open(alloc: Global) -> Result<LiteBackend, NoMemory>
         ensures { IfOk result (λ backend. backend ≡ fresh_state) }
     {
@@ -66,7 +65,7 @@ impl LiteBackend {
         })
     }
 
-    /// Enters a call.
+    /// Enters a call: remembers its login. After `NoMemory` the state is unchanged.
     fn enter(&mut self, user: &Text) -> Result<(), BackendError>
         ensures { Enters self.old user.now result self.new }
     {
@@ -76,7 +75,7 @@ impl LiteBackend {
         Ok(())
     }
 
-    /// Counts a fault of the database, and answers it.
+    /// Ends a call: a fault of the database is counted and answered as `Failed`.
     fn end<T>(&mut self, done: Result<T, LiteError>) -> Result<T, BackendError>
         ensures { EndsCall self.old done result self.new }
     {
@@ -158,7 +157,7 @@ impl Backend for LiteBackend {
         Ok(())
     }
 
-    /// The login is entered behind the answer, so that want of memory changes nothing.
+    /// The login is entered after the answer, so that `NoMemory` leaves the last login.
     fn ask(&mut self, user: &Text, tx: u64, select: &Select) -> Result<Asked, BackendError> {
         let asked = self.database.ask(tx, select);
         let answer = self.end(asked)?;
@@ -172,7 +171,7 @@ impl Backend for LiteBackend {
         self.end(contents)
     }
 
-    /// Fills a new database before it takes the old one's place.
+    /// Fills a new database before it replaces the old one, so that an error leaves the old one in place.
     fn load(&mut self, db: Db) -> Result<(), BackendError> {
         let loaded = Database::of_db(self.alloc, db);
         let (database, begun) = self.end(loaded)?;

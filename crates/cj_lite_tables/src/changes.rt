@@ -1,4 +1,4 @@
-//! Rows that change, by their keys.
+//! Changes of rows, by key.
 
 use crate::error::LiteError;
 use crate::statements::Statements;
@@ -8,7 +8,7 @@ use sqlite::{MemStore, Transaction};
 use std::alloc::Global;
 use std::collections::BTreeMap;
 
-/// Keys, each with the row that is to stand there, or none where its row is to go.
+/// Keys, each with the row that it gets, or with none where its row is removed.
 #[derive(Drop)]
 pub struct Changes {
     rows: BTreeMap<Value, Option<Row>>,
@@ -30,24 +30,27 @@ fn put_all(
 }
 
 impl Changes {
+    /// No changes, without allocation.
     pub fn new(alloc: Global) -> Changes {
         Changes {
             rows: BTreeMap::new(alloc),
         }
     }
 
-    /// The change at a key.
+    /// The change at a key; none if the key has no change.
     pub fn get(&self, key: &Value) -> Option<&Option<Row>> {
         self.rows.get(key)
     }
 
-    /// Puts a change at a key, in place of an earlier one.
+    /// Puts a change at a key, in place of an earlier one. `None` as row removes the row. Fails only with
+    /// `LiteError::NoMemory`.
     pub fn put(&mut self, key: Value, row: Option<Row>) -> Result<(), LiteError> {
         self.rows.insert(key, row)?;
         Ok(())
     }
 
-    /// Adds later changes.
+    /// Adds later changes, which replace earlier ones at the same keys. An error may leave some of them
+    /// added.
     pub fn absorb(&mut self, later: Changes) -> Result<(), LiteError> {
         let Changes { rows } = later;
         for (key, row) in rows {
@@ -56,7 +59,7 @@ impl Changes {
         Ok(())
     }
 
-    /// Copies of the rows that are to stand.
+    /// Copies of the rows that the changes put.
     pub fn standing(&self, alloc: Global) -> Result<Vec<Row>, LiteError> {
         let mut standing = Vec::new(alloc);
         for row in self.rows.values() {
@@ -67,8 +70,8 @@ impl Changes {
         Ok(standing)
     }
 
-    /// Makes the changes in a table. Rows go from the last key on, and come from the first on, so that
-    /// SQLite's lists of rows move little.
+    /// Makes the changes in a transaction of SQLite, which the caller commits. Rows are removed from the
+    /// last key on, and put from the first on, so that SQLite's lists of rows move little.
     pub fn run(
         &self,
         alloc: Global,

@@ -1,5 +1,5 @@
-//! A database in SQLite. What a statement means is decided by the engine, over the rows that the
-//! statement may meet; SQLite keeps the rows, and finds them by their keys.
+//! A database in SQLite. The engine decides what a statement means, over the rows that the statement may
+//! concern. SQLite stores the rows, and finds them by key.
 
 ghost use Rattle.std.specs.Prelude.{◌≡◌, ◌<◌, length, IfOk, IfSome};
 ghost use Rattle.cj_model.specs.declared.request.Request.TheVariants as request;
@@ -26,21 +26,22 @@ use sqlite::{Connection, MemStore};
 use std::alloc::Global;
 use std::marker::Model;
 
-/// A database of tables whose rows stand in SQLite, in memory. Contracts see nothing of what it holds.
+/// A database of tables whose committed rows are in SQLite, in memory. Contracts see nothing of what it
+/// holds.
 ///
-/// What a transaction changes is kept beside SQLite as the draft of a table, and laid over what SQLite
-/// gives, until it is committed. A table has the draft of one transaction at a time. The database
-/// doesn't know which transactions are begun: a write makes a draft where there is none.
+/// Until a transaction is committed, its changes are kept beside SQLite as the drafts of tables, and laid
+/// over the rows that SQLite gives. A table has the draft of one transaction at a time. The database does
+/// not know which transactions are begun: a write makes a draft where there is none.
 ///
-/// Each call may answer `Fault`, where SQLite refuses a statement or gives back what was never stored,
-/// and `NoMemory`, but for `open`, which answers `NoMemory` alone, and `abort`, which answers no error.
+/// `Fault` means that SQLite refused a statement or gave back what was never stored. Each call may answer
+/// `Fault` or `NoMemory`, except that `open` answers only `NoMemory`, and `abort` no error.
 pub struct Database {
     alloc: Global,
     conn: Connection<MemStore>,
     tables: Vec<LiteTable>,
 }
 
-// It is written out, so that a caller does not prove again how each part is dropped.
+// Written out, so that a caller does not prove again how each part is dropped.
 impl Drop for Database {
     fn drop(self) {
         let Database {
@@ -76,7 +77,7 @@ fn refused(code: u16) -> Outcome
     Outcome::Refused(Refusal::of_code(code))
 }
 
-/// Adds a table and the draft of it to a database of the engine's.
+/// Adds a table and its draft to a database of the engine.
 fn add_whole(
     alloc: Global,
     conn: &mut Connection<MemStore>,
@@ -98,7 +99,7 @@ fn add_whole(
     add_draft(alloc, whole, tx, &table.schema().table, rows)
 }
 
-/// Makes the drafts of a transaction in SQLite, all or none.
+/// Makes the drafts of a transaction in SQLite: all of them or none.
 fn run_drafts(
     alloc: Global,
     conn: &mut Connection<MemStore>,
@@ -113,7 +114,7 @@ fn run_drafts(
     Ok(())
 }
 
-/// The database as lists, if it can be stored.
+/// The database as lists; a fault where it can't be stored.
 fn stored(whole: &Tables) -> Result<Db, LiteError>
     ensures { IfOk result IsStorable }
 {
@@ -126,7 +127,7 @@ fn stored(whole: &Tables) -> Result<Db, LiteError>
 }
 
 impl Database {
-    /// A database of no tables, which takes its memory from here.
+    /// A database without tables, which allocates from `alloc`.
     pub fn open(alloc: Global) -> Result<Database, NoMemory> {
         let conn = Connection::open_in_memory(alloc)?;
         Ok(Database {
@@ -136,9 +137,10 @@ impl Database {
         })
     }
 
-    /// A database that holds this one, drafts included, and the transactions that have a draft in it.
+    /// A database with the contents of `db`, drafts included, and the transactions that have a draft in it,
+    /// in rising number.
     ///
-    /// An error leaves nothing: what was made until then is dropped.
+    /// After an error everything that was made is dropped.
     pub fn of_db(alloc: Global, db: Db) -> Result<(Database, Vec<u64>), LiteError>
         requires { IsDatabase db }
         ensures { IfOk result (λ made. made.1.items ≡ writers db) }
@@ -149,7 +151,7 @@ impl Database {
         Ok((database, begun))
     }
 
-    /// Makes a table of this schema, which must not be there.
+    /// Makes a table of this schema, whose name must not be in use.
     fn add_table(&mut self, schema: Schema) -> Result<(), LiteError> {
         let table = LiteTable::create(self.alloc, &mut self.conn, schema)?;
         self.tables.push(table)?;
@@ -158,8 +160,8 @@ impl Database {
 
     /// Carries out a write of transaction `tx`, 0 for none, or refuses it and changes nothing.
     ///
-    /// After an error with `tx` 0 nothing is changed. With another it may be that some of the rows are
-    /// changed in the transaction's draft.
+    /// After an error with `tx` 0 nothing is changed. With another `tx` some of the rows may be changed in
+    /// the transaction's draft.
     pub fn write(&mut self, tx: u64, write: &Write) -> Result<Outcome, LiteError>
         ensures { IfOk result IsOutcome }
     {
@@ -172,10 +174,10 @@ impl Database {
         }
     }
 
-    /// CREATE TABLE, or its refusal.
+    /// Creates a table, or refuses it.
     ///
-    /// After an error the database has no such table, but SQLite may have it: then a later CREATE TABLE
-    /// of that name is a fault.
+    /// After an error the database has no such table, but SQLite may have it. A later CREATE TABLE of that
+    /// name is then a fault.
     pub fn create(&mut self, create: &Create) -> Result<Outcome, LiteError>
         requires { IsWritten (request.Create create.now) }
         ensures { IfOk result IsOutcome }
@@ -192,9 +194,9 @@ impl Database {
         }
     }
 
-    /// DROP TABLE, which is refused where a transaction has a draft of the table.
+    /// Drops a table, or refuses it if the table does not exist or a transaction has a draft of it.
     ///
-    /// After an error the table is there as before.
+    /// After an error the table exists as before.
     pub fn drop_table(&mut self, name: &Name) -> Result<Outcome, LiteError>
         ensures { IfOk result IsOutcome }
     {
@@ -213,9 +215,9 @@ impl Database {
         Ok(Outcome::Done(0))
     }
 
-    /// Makes the drafts of a transaction stand, all or none.
+    /// Commits the drafts of transaction `tx`: all of them or none.
     ///
-    /// After an error they are still drafts, and may be committed again or forgotten.
+    /// After an error they are still drafts, and may be committed again or aborted.
     pub fn commit(&mut self, tx: u64) -> Result<(), LiteError> {
         run_drafts(self.alloc, &mut self.conn, &self.tables, tx)?;
         for table in self.tables.iter_mut() {
@@ -224,16 +226,16 @@ impl Database {
         Ok(())
     }
 
-    /// Forgets the drafts of a transaction, if it has any.
+    /// Drops the drafts of transaction `tx`, if it has any.
     pub fn abort(&mut self, tx: u64) {
         for table in self.tables.iter_mut() {
             table.abort(tx);
         }
     }
 
-    /// What a query of transaction `tx`, 0 for none, is answered: rows, or a refusal.
+    /// Answers a query of transaction `tx`, 0 for none, or refuses it.
     ///
-    /// Nothing is changed by it, nor by an error.
+    /// The database is unchanged, after an error too.
     pub fn ask(&mut self, tx: u64, select: &Select) -> Result<Asked, LiteError>
         requires { IsWritten (request.Select select.now) }
         ensures { IfOk result IsAsked }
@@ -242,9 +244,9 @@ impl Database {
         Ok(asked(self.alloc, &small, select)?)
     }
 
-    /// A copy of the database, drafts included. A fault where it can't be stored.
+    /// A copy of the database, drafts included. A database that can't be stored is answered as a fault.
     ///
-    /// Nothing is changed by it, nor by an error.
+    /// The database is unchanged, after an error too.
     pub fn contents(&mut self) -> Result<Db, LiteError>
         ensures { IfOk result IsStorable }
     {

@@ -1,4 +1,4 @@
-//! Why a call of the SQLite database came to nothing.
+//! Why a call of the SQLite database failed.
 
 use cj_model::NoMemory;
 use sqlite::ErrorCode;
@@ -11,7 +11,7 @@ pub enum LiteError {
     /// SQLite refused a statement that was found right, or gave back what was never stored.
     #[error("a fault of the database")]
     Fault,
-    /// There was no memory for it.
+    /// An allocation failed.
     #[error("out of memory")]
     NoMemory,
 }

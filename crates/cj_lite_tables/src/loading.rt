@@ -12,7 +12,7 @@ use cj_table::Tables;
 use sqlite::{Connection, MemStore};
 use std::alloc::Global;
 
-/// Puts these rows in place of those of the keys, as what a transaction, 0 for none, sees.
+/// Replaces the rows of these keys by these rows, as transaction `tx`, 0 for none, sees them.
 fn fill(
     alloc: Global,
     conn: &mut Connection<MemStore>,
@@ -26,7 +26,7 @@ fn fill(
     table.change(alloc, conn, tx, changes, count)
 }
 
-/// The table with its rows in SQLite, and its draft.
+/// Loads one table: its rows into SQLite, and its draft.
 fn loaded_table(
     alloc: Global,
     conn: &mut Connection<MemStore>,
@@ -43,7 +43,7 @@ fn loaded_table(
     Ok(table)
 }
 
-/// The tables of a database, with their rows in SQLite and their drafts.
+/// Loads the tables of a database: their rows into SQLite, and their drafts.
 pub fn loaded_tables(
     alloc: Global,
     conn: &mut Connection<MemStore>,
@@ -56,7 +56,7 @@ pub fn loaded_tables(
     Ok(tables)
 }
 
-/// The transactions that have a draft in a database.
+/// The transactions that have a draft in a database, in rising number. Fails only with `NoMemory`.
 pub fn writers_in(alloc: Global, db: Db) -> Result<Vec<u64>, NoMemory>
     requires { IsDatabase db }
     ensures { IfOk result (λ found. found.items ≡ writers db) }

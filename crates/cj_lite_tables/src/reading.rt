@@ -1,4 +1,4 @@
-//! The rows that a statement may meet.
+//! The rows that a statement may concern.
 
 use crate::error::LiteError;
 use crate::search::{Search, bound};
@@ -10,7 +10,7 @@ use cj_table::Tables;
 use sqlite::{Connection, MemStore};
 use std::alloc::Global;
 
-/// Where the key stands in the tuples of an INSERT.
+/// The index of the key in the tuples of an INSERT.
 fn key_place(schema: &Schema, names: &Option<Names>) -> Option<usize> {
     let place = usize::from(schema.key);
     match (names, schema.columns.as_slice().get(place)) {
@@ -20,7 +20,7 @@ fn key_place(schema: &Schema, names: &Option<Names>) -> Option<usize> {
     }
 }
 
-/// The constant at a place of a tuple, which is a literal in all that is written.
+/// The constant at index `place` of a tuple, which is a literal in every written statement.
 fn constant_at(tuple: &Tuple, place: usize) -> Option<&Value> {
     match tuple.as_slice().get(place) {
         Some(Term::Lit(value)) => Some(value),
@@ -28,8 +28,8 @@ fn constant_at(tuple: &Tuple, place: usize) -> Option<&Value> {
     }
 }
 
-/// The first row that a transaction sees at the key of a tuple, if there is one. One is enough for the
-/// INSERT to be refused.
+/// The first row that a transaction sees at the key of a tuple, if there is one. One such row is enough for
+/// the INSERT to be refused.
 fn rows_at_tuples(
     alloc: Global,
     conn: &mut Connection<MemStore>,
@@ -51,7 +51,7 @@ fn rows_at_tuples(
     Ok(found)
 }
 
-/// The rows that meet a condition; none where it is refused.
+/// The rows that meet a condition; no rows where the condition is refused.
 fn rows_met(
     alloc: Global,
     conn: &mut Connection<MemStore>,
@@ -72,7 +72,7 @@ fn rows_met(
     table.rows(alloc, conn, tx, &search)
 }
 
-/// The rows of a table on which hangs what a write comes to, with all that it changes.
+/// The rows of a table that decide the outcome of a write, among them all that it changes.
 pub fn rows_written(
     alloc: Global,
     conn: &mut Connection<MemStore>,
@@ -91,7 +91,7 @@ pub fn rows_written(
     }
 }
 
-/// The tables of these names; none where one isn't there.
+/// The tables of these names; none if one does not exist.
 fn tables_named<'a>(
     alloc: Global,
     tables: &'a [LiteTable],
@@ -126,7 +126,8 @@ fn is_column(item: &Item) -> bool {
     }
 }
 
-/// How many rows in rising key are enough to answer a query of one table.
+/// The number of rows in rising key that are enough to answer a query of one table; none where all may be
+/// needed.
 fn limit_of(select: &Select) -> Option<u64> {
     let each = match &select.items {
         Items::All => true,
@@ -139,7 +140,7 @@ fn limit_of(select: &Select) -> Option<u64> {
     }
 }
 
-/// The database of the tables that a query names, with all rows on which its answer hangs.
+/// A small database of the tables that a query names, with all rows that decide its answer.
 pub fn tables_asked(
     alloc: Global,
     conn: &mut Connection<MemStore>,

@@ -1,11 +1,12 @@
-//! Which rows of a table a statement may meet.
+//! Which rows of a table a statement may concern.
 
 use crate::error::LiteError;
 use cj_expr::{BindError, Predicate, Scope, bind};
 use cj_model::{Cond, Row, Value};
 use std::alloc::Global;
 
-/// The condition over these columns; none where it is refused.
+/// Binds a condition to these columns. The outer option is none where the condition is refused, the inner
+/// one where there is no condition.
 pub fn bound(
     alloc: Global,
     cond: &Option<Cond>,
@@ -21,20 +22,20 @@ pub fn bound(
     }
 }
 
-/// What is looked for in one table.
+/// A search for rows of one table.
 #[derive(Drop)]
 pub struct Search<'a> {
     pub cond: &'a Option<Predicate>,
-    /// The place of the table's key among the columns that the condition speaks of.
+    /// The index of the table's key among the columns of the condition.
     pub key: usize,
-    /// Whether these columns are the table's alone.
+    /// Whether the condition has the columns of this table only.
     pub is_alone: bool,
-    /// How many rows in rising key are enough.
+    /// The number of rows in rising key that are enough; none where all are needed.
     pub limit: Option<u64>,
 }
 
 impl<'a> Search<'a> {
-    /// The key that each row has which is looked for, where the condition says it.
+    /// The key of each row in question, if the condition fixes it.
     pub fn key_wanted(&self) -> Option<&'a Value> {
         match self.cond {
             Some(predicate) => predicate.key_of(self.key),
@@ -42,7 +43,7 @@ impl<'a> Search<'a> {
         }
     }
 
-    /// The key below which no row is looked for, of those from this one on, where there is one.
+    /// The key below which no row from `key` on is in question, if there is one.
     pub fn start(&self, key: &Value) -> Option<&'a Value> {
         match self.cond {
             Some(predicate) => match predicate.reach(self.key, key) {
@@ -53,7 +54,7 @@ impl<'a> Search<'a> {
         }
     }
 
-    /// Whether a row may be looked for whose key is this or stands above it.
+    /// Whether a row with this key or a greater one may be in question.
     pub fn goes_on(&self, key: &Value) -> bool {
         match self.cond {
             Some(predicate) => predicate.reach(self.key, key).is_some(),
@@ -61,7 +62,7 @@ impl<'a> Search<'a> {
         }
     }
 
-    /// Whether the row may be looked for.
+    /// Whether the row may be in question.
     pub fn takes(&self, row: &Row) -> bool {
         match self.cond {
             Some(predicate) => !self.is_alone || predicate.holds(row.as_slice()),
@@ -69,7 +70,7 @@ impl<'a> Search<'a> {
         }
     }
 
-    /// Whether so many rows are enough.
+    /// Whether `count` rows are enough.
     pub fn is_enough(&self, count: usize) -> bool {
         match self.limit {
             Some(limit) => count as u64 >= limit,

@@ -1,4 +1,4 @@
-//! Small databases of the engine's, of the rows that one statement may meet.
+//! Small databases of the engine, with the rows that one statement may concern.
 
 ghost use Rattle.std.specs.Prelude.{◌≡◌, ◌≤◌, IfOk, length};
 ghost use Rattle.cj_model.specs.declared.limits.TheConstants.{COLUMN_LIMIT};
@@ -31,7 +31,7 @@ fn tuples_of(alloc: Global, rows: Vec<Row>) -> Result<Tuples, NoMemory> {
     Ok(tuples)
 }
 
-/// What SQLite gives fits the table that it is of, unless there is a fault.
+/// Rows that SQLite gives fit their table; a refusal is therefore a fault.
 fn done(outcome: Outcome) -> Result<(), LiteError> {
     match outcome {
         Outcome::Done(_) => Ok(()),
@@ -39,7 +39,7 @@ fn done(outcome: Outcome) -> Result<(), LiteError> {
     }
 }
 
-/// Adds a table with these rows, which come in any order.
+/// Adds a table with these rows, in any order, to a small database.
 pub fn add_table(
     alloc: Global,
     small: &mut Tables,
@@ -53,7 +53,7 @@ pub fn add_table(
     Ok(())
 }
 
-/// Makes these the rows that a transaction has in its draft of a table.
+/// Makes these rows the contents of a transaction's draft of a table.
 pub fn add_draft(
     alloc: Global,
     small: &mut Tables,
@@ -74,7 +74,7 @@ pub fn add_draft(
     done(small.write(tx, &insert)?)
 }
 
-/// Copies of the rows that a transaction, 0 for none, sees of a table.
+/// Copies of the rows that transaction `tx`, 0 for none, sees of a table.
 pub fn rows_seen(
     alloc: Global,
     small: &Tables,
@@ -91,7 +91,8 @@ pub fn rows_seen(
     Ok(rows)
 }
 
-/// The schema of the table that is made; none where its columns don't fit each other.
+/// The schema of the table that a CREATE TABLE makes; none where its columns do not fit each other. Fails
+/// only with `NoMemory`.
 pub fn schema_made(alloc: Global, create: &Create) -> Result<Option<Schema>, NoMemory>
     requires { length create.now.columns ≤ COLUMN_LIMIT }
 {
@@ -103,14 +104,14 @@ pub fn schema_made(alloc: Global, create: &Create) -> Result<Option<Schema>, NoM
     }
 }
 
-/// What a write comes to.
+/// Carries out a write in a small database, or refuses it. Fails only with `NoMemory`.
 pub fn written(small: &mut Tables, write: &Write) -> Result<Outcome, NoMemory>
     ensures { IfOk result IsOutcome }
 {
     small.write(0, write)
 }
 
-/// What a query comes to.
+/// Answers a query from a small database, or refuses it. Fails only with `NoMemory`.
 pub fn asked(alloc: Global, small: &Tables, query: &Select) -> Result<Asked, NoMemory>
     requires { IsWritten (request.Select query.now) }
     ensures { IfOk result IsAsked }

@@ -1,5 +1,5 @@
-//! The statements of SQLite that a table is kept by. Tables and columns have prefixes there, so that
-//! no name is one of SQLite's words; values are parameters.
+//! The SQLite statements that store a table. Tables and columns have prefixes in SQLite, so that no name is
+//! one of its words; values are parameters.
 
 use crate::error::LiteError;
 use cj_model::{Column, Kind, Name, Schema};
@@ -7,7 +7,7 @@ use sqlite::{Connection, MemStore, Statement};
 use std::alloc::Global;
 use std::marker::Model;
 
-/// A statement that is prepared, of which contracts see nothing.
+/// A prepared statement, of which contracts see nothing.
 pub struct Prepared {
     statement: Statement,
 }
@@ -18,18 +18,18 @@ impl Model for Prepared {
     ghost view = { λ _. tt };
 }
 
-// It is written out, so that a caller does not prove again how each part is dropped.
+// Written out, so that a caller does not prove again how each part is dropped.
 impl Drop for Prepared {
     fn drop(self) {
         let Prepared { statement: _ } = self;
     }
 }
 
-/// What is run again and again of a table, prepared once.
+/// The statements that a table needs again and again, prepared once.
 pub struct Statements {
     /// Puts a row, in place of the one with its key.
     pub put: Prepared,
-    /// Takes out the row of a key.
+    /// Removes the row of a key.
     pub remove: Prepared,
     /// Gives the row of a key.
     pub find: Prepared,
@@ -37,7 +37,7 @@ pub struct Statements {
     pub scan: Prepared,
 }
 
-// It is written out, so that a caller does not prove again how each part is dropped.
+// Written out, so that a caller does not prove again how each part is dropped.
 impl Drop for Statements {
     fn drop(self) {
         let Statements {
@@ -151,6 +151,7 @@ impl Prepared {
         }
     }
 
+    /// The statement of SQLite.
     pub fn as_statement(&self) -> &Statement {
         &self.statement
     }
@@ -188,7 +189,7 @@ fn prepare_scan(
 }
 
 impl Statements {
-    /// The statements of a table that is there.
+    /// Prepares the statements of a table that exists.
     fn prepare(
         alloc: Global,
         conn: &mut Connection<MemStore>,
@@ -206,7 +207,7 @@ impl Statements {
         })
     }
 
-    /// Makes the table, which must not be there.
+    /// Creates a table in SQLite, whose name must not be in use there, and prepares its statements.
     pub fn create(
         alloc: Global,
         conn: &mut Connection<MemStore>,
@@ -218,7 +219,7 @@ impl Statements {
     }
 }
 
-/// Takes a table out.
+/// Drops a table in SQLite.
 pub fn drop_table(
     alloc: Global,
     conn: &mut Connection<MemStore>,

@@ -33,7 +33,7 @@ fn is_unreserved(name: &Name) -> bool
     }
 }
 
-/// Whether it isn't the empty name.
+/// Whether the name is not empty.
 fn is_name(name: &Name) -> bool
     ensures { result ≡ true → names.is_name name.now ≡ true }
 {
@@ -54,7 +54,7 @@ fn is_constant(value: &Value) -> bool
 {
     match value {
         Value::Int(number) => {
-            // Reading it is what tells that it has 64 bits.
+            // Reading the number tells that it has 64 bits.
             let _number = *number;
             true
         }
@@ -103,7 +103,7 @@ fn is_storable_slot(slot: &Slot) -> bool
     }
 }
 
-/// Whether each name is free, and each value can be written as a constant.
+/// Whether no name is reserved, and each value can be written as a constant.
 pub fn are_storable(slots: &[Slot]) -> bool
     ensures { result ≡ true → All storable.IsStorableSlot slots.now }
 {

@@ -1,4 +1,4 @@
-//! A table that SQLite keeps, and what a transaction has changed of it.
+//! A table in SQLite, and the uncommitted changes of one transaction to it.
 
 use crate::changes::Changes;
 use crate::error::LiteError;
@@ -9,16 +9,16 @@ use cj_model::{Duplicate, Kind, Name, Row, Schema, Text, Value};
 use sqlite::{Connection, MemStore, Rows, Transaction};
 use std::alloc::Global;
 
-/// What a transaction has changed of a table, and not yet committed. It isn't in SQLite.
+/// The uncommitted changes of one transaction to a table, which SQLite does not have.
 pub struct LiteDraft {
-    /// The transaction, above 0.
+    /// The transaction's number, above 0.
     pub tx: u64,
     pub changes: Changes,
-    /// How many rows the table has with the changes.
+    /// The number of the table's rows after the changes.
     pub count: usize,
 }
 
-// It is written out, so that a caller does not prove again how each part is dropped.
+// Written out, so that a caller does not prove again how each part is dropped.
 impl Drop for LiteDraft {
     fn drop(self) {
         let LiteDraft {
@@ -29,16 +29,16 @@ impl Drop for LiteDraft {
     }
 }
 
-/// A table whose rows, as committed, stand in SQLite.
+/// A table whose committed rows are in SQLite.
 pub struct LiteTable {
     schema: Schema,
     statements: Statements,
-    /// How many rows stand in SQLite.
+    /// The number of rows in SQLite.
     count: usize,
     draft: Option<LiteDraft>,
 }
 
-// It is written out, so that a caller does not prove again how each part is dropped.
+// Written out, so that a caller does not prove again how each part is dropped.
 impl Drop for LiteTable {
     fn drop(self) {
         let LiteTable {
@@ -50,7 +50,7 @@ impl Drop for LiteTable {
     }
 }
 
-/// A value that stands above no other of its kind.
+/// The least value of a kind.
 fn least(alloc: Global, kind: Kind) -> Result<Value, LiteError> {
     match kind {
         Kind::Integer => Ok(Value::Int(i64::MIN)),
@@ -61,7 +61,7 @@ fn least(alloc: Global, kind: Kind) -> Result<Value, LiteError> {
     }
 }
 
-/// A transaction of SQLite.
+/// Begins a transaction of SQLite.
 pub fn started(conn: &mut Connection<MemStore>) -> Result<Transaction<'_, MemStore>, LiteError> {
     if !conn.is_autocommit() {
         return Err(LiteError::Fault);
@@ -69,8 +69,7 @@ pub fn started(conn: &mut Connection<MemStore>) -> Result<Transaction<'_, MemSto
     Ok(conn.transaction())
 }
 
-/// The rows that a search takes of those that SQLite gives in rising key, but for those at keys that
-/// are changed.
+/// The rows in question among those that SQLite gives in rising key, without those at changed keys.
 fn taken(
     alloc: Global,
     rows: &mut Rows<'_, MemStore>,
@@ -104,7 +103,7 @@ fn is_changed(changes: Option<&Changes>, key: &Value) -> bool {
     }
 }
 
-/// Adds the rows that a search takes of those that are to stand.
+/// Adds the rows in question among those that the changes put.
 fn add_standing(
     alloc: Global,
     changes: &Changes,
@@ -120,7 +119,7 @@ fn add_standing(
 }
 
 impl LiteTable {
-    /// A new table, which SQLite has not yet.
+    /// Creates a table, in SQLite too, which must not have it yet.
     pub fn create(
         alloc: Global,
         conn: &mut Connection<MemStore>,
@@ -135,15 +134,17 @@ impl LiteTable {
         })
     }
 
+    /// The table's schema.
     pub fn schema(&self) -> &Schema {
         &self.schema
     }
 
+    /// Whether the table has this name.
     pub fn is_named(&self, name: &Name) -> bool {
         self.schema.table.is(name)
     }
 
-    /// The place of the key among the columns.
+    /// The index of the key among the columns.
     pub fn key(&self) -> usize {
         usize::from(self.schema.key)
     }
@@ -155,7 +156,7 @@ impl LiteTable {
         }
     }
 
-    /// The transaction that has a draft.
+    /// The transaction that has a draft of the table; none without a draft.
     pub fn writer(&self) -> Option<u64> {
         match &self.draft {
             Some(draft) => Some(draft.tx),
@@ -163,7 +164,7 @@ impl LiteTable {
         }
     }
 
-    /// The other transaction that has a draft.
+    /// The transaction other than `tx` that has a draft of the table; none if there is none.
     pub fn other_writer(&self, tx: u64) -> Option<u64> {
         match &self.draft {
             Some(draft) if draft.tx != tx => Some(draft.tx),
@@ -171,7 +172,7 @@ impl LiteTable {
         }
     }
 
-    /// The transaction's draft.
+    /// The draft of transaction `tx`, if it has one.
     fn draft_of(&self, tx: u64) -> Option<&LiteDraft> {
         match &self.draft {
             Some(draft) if draft.tx == tx => Some(draft),
@@ -186,7 +187,7 @@ impl LiteTable {
         }
     }
 
-    /// How many rows a transaction, 0 for none, sees.
+    /// The number of rows that transaction `tx`, 0 for none, sees.
     pub fn count(&self, tx: u64) -> usize {
         match self.draft_of(tx) {
             Some(draft) => draft.count,
@@ -194,7 +195,7 @@ impl LiteTable {
         }
     }
 
-    /// The row of a key in SQLite.
+    /// The row of a key in SQLite, if there is one.
     fn find_base(
         &self,
         alloc: Global,
@@ -209,7 +210,8 @@ impl LiteTable {
         }
     }
 
-    /// The row of a key that a transaction sees. No row has a key of another kind than the column's.
+    /// The row of a key that transaction `tx` sees, if there is one. A key of another kind than the
+    /// column's has no row.
     pub fn find(
         &self,
         alloc: Global,
@@ -228,7 +230,7 @@ impl LiteTable {
         self.find_base(alloc, conn, key)
     }
 
-    /// The rows in SQLite that a search takes, but for those that a transaction has changed.
+    /// The rows in question in SQLite, without those that the transaction has changed.
     fn scan_base(
         &self,
         alloc: Global,
@@ -243,7 +245,7 @@ impl LiteTable {
         taken(alloc, &mut rows, self.key(), self.changes_of(tx), search)
     }
 
-    /// The rows that a transaction sees and a search takes, in no order.
+    /// The rows in question that a transaction sees, in no order, found by a walk.
     fn scan(
         &self,
         alloc: Global,
@@ -258,8 +260,8 @@ impl LiteTable {
         Ok(found)
     }
 
-    /// The rows that a transaction sees and a search takes, in no order: where the search says what
-    /// the key is, one look-up finds them.
+    /// The rows in question that transaction `tx` sees, in no order. One look-up finds them if the search
+    /// fixes the key.
     pub fn rows(
         &self,
         alloc: Global,
@@ -279,7 +281,9 @@ impl LiteTable {
         Ok(found)
     }
 
-    /// Makes changes of what a transaction, 0 for none, sees, with which it has so many rows.
+    /// Changes the rows that transaction `tx` sees, after which `count` rows are left. With `tx` 0 the
+    /// changes are committed in SQLite at once. Otherwise they are added to the draft, and an error may
+    /// leave some of them added.
     pub fn change(
         &mut self,
         alloc: Global,
@@ -309,7 +313,7 @@ impl LiteTable {
         Ok(())
     }
 
-    /// Makes the changes of a transaction's draft in SQLite.
+    /// Makes the changes of a transaction's draft in SQLite; the draft itself stays.
     pub fn run_draft(
         &self,
         alloc: Global,
@@ -322,7 +326,7 @@ impl LiteTable {
         }
     }
 
-    /// Ends the draft of a transaction whose changes stand in SQLite.
+    /// Ends the draft of transaction `tx`, whose changes SQLite already has.
     pub fn commit(&mut self, tx: u64) {
         if let Some(draft) = self.draft_of(tx) {
             self.count = draft.count;
@@ -330,7 +334,7 @@ impl LiteTable {
         self.abort(tx);
     }
 
-    /// Forgets the draft of a transaction.
+    /// Drops the draft of transaction `tx`, if it has one.
     pub fn abort(&mut self, tx: u64) {
         if self.draft_of(tx).is_some() {
             self.draft = None;

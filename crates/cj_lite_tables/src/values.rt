@@ -1,4 +1,4 @@
-//! Values on their way to SQLite and back.
+//! Conversion of values to SQLite and back.
 
 use crate::error::LiteError;
 use cj_model::{Row, Text, Value};
@@ -22,7 +22,7 @@ pub fn parameters<'a>(alloc: Global, row: &'a Row) -> Result<Vec<ValueRef<'a>>, 
     Ok(out)
 }
 
-/// The value that SQLite gives, if it is one of ours.
+/// The value that SQLite gives; a fault if it is neither an INTEGER nor a TEXT of ours.
 fn value_of(alloc: Global, given: ValueRef<'_>) -> Result<Value, LiteError> {
     match given {
         ValueRef::Int(number) => Ok(Value::Int(number)),
@@ -37,7 +37,7 @@ fn value_of(alloc: Global, given: ValueRef<'_>) -> Result<Value, LiteError> {
     }
 }
 
-/// The row that SQLite gives.
+/// The row that SQLite gives; a fault if one of its values was never stored.
 pub fn row_of(alloc: Global, given: &sqlite::Row) -> Result<Row, LiteError> {
     let count = given.column_count();
     let mut values = Vec::with_capacity(alloc, count)?;

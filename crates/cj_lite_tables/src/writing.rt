@@ -1,4 +1,4 @@
-//! What a write changes.
+//! The changes of a write.
 
 ghost use Rattle.std.specs.Prelude.{IfOk};
 ghost use Rattle.cj_model.specs.Database.Outcomes.{IsOutcome};
@@ -20,7 +20,7 @@ fn key_of(alloc: Global, row: &Row, place: usize) -> Result<Value, LiteError> {
     }
 }
 
-/// The changes by which the rows of these keys go.
+/// The changes that remove the rows of these keys.
 fn removals(alloc: Global, keys: &[Value]) -> Result<Changes, LiteError> {
     let mut changes = Changes::new(alloc);
     for key in keys {
@@ -29,7 +29,7 @@ fn removals(alloc: Global, keys: &[Value]) -> Result<Changes, LiteError> {
     Ok(changes)
 }
 
-/// The changes that turn rows of a table into others.
+/// The changes that turn the rows of the keys `before` into the rows `after`.
 pub fn changes_between(
     alloc: Global,
     place: usize,
@@ -44,6 +44,7 @@ pub fn changes_between(
     Ok(changes)
 }
 
+/// Copies of the rows' keys, their values at index `place`.
 pub fn keys_of(alloc: Global, place: usize, rows: &[Row]) -> Result<Vec<Value>, LiteError> {
     let mut keys = Vec::new(alloc);
     for row in rows {
@@ -52,8 +53,8 @@ pub fn keys_of(alloc: Global, place: usize, rows: &[Row]) -> Result<Vec<Value>, 
     Ok(keys)
 }
 
-/// Carries out a write that is done in a small database: the rows at these keys become those that
-/// stand there.
+/// Carries out a write that was done in a small database: the rows at these keys become those of the small
+/// database.
 fn carry_out(
     alloc: Global,
     conn: &mut Connection<MemStore>,
@@ -80,7 +81,8 @@ fn carry_out(
     Ok(Outcome::Done(done))
 }
 
-/// A write of transaction `tx`, 0 for none, in its table.
+/// Carries out a write of transaction `tx`, 0 for none, in its table, or refuses it. After an error with
+/// `tx` 0 the table is unchanged; with another `tx` its draft may have some of the changes.
 pub fn write_table(
     alloc: Global,
     conn: &mut Connection<MemStore>,

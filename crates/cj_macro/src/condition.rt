@@ -9,7 +9,7 @@ use crate::part::Part;
 use cj_model::{Cond, CondNode};
 use cj_outside::Draw;
 
-/// Puts values in place of the calls in a condition's tree.
+/// Replaces the calls in a condition's tree by values.
 #[tactic(auto, using(crate::proofs::Drawing::front_draws, crate::proofs::Drawing::behind_draws))]
 fn rewrite_node<D: Draw>(node: &mut CondNode, now: i64, draw: &mut D)
     requires { are_drawable (condition_bounds (condition_of_node node.old)) ≡ true }

@@ -17,15 +17,16 @@ ghost use Rattle.cj_macro.specs.Drawable.{are_drawable};
 use cj_model::{Expr, ListOf, Set, Term, Value};
 use cj_outside::Draw;
 
-/// A part of a request that may call the clock and random numbers.
+/// A part of a request that may have calls of NOW and RAND.
 pub trait Part {
-    /// The numbers of its RANDs, in text order.
+    /// The bounds of the part's RAND calls, in text order.
     ghost bounds: { Self → List ℕ };
 
-    /// The part with values in place of the calls.
+    /// The part with its calls replaced by values.
     ghost rewritten: { ℤ → List ℕ → Self → Self };
 
-    /// Puts values in place of its calls.
+    /// Replaces the part's calls by values: `now` for each NOW, and a fresh draw for each RAND, in text
+    /// order.
     fn rewrite<D: Draw>(&mut self, now: i64, draw: &mut D)
         requires { are_drawable (bounds self.old) ≡ true }
         ensures rewritten { self.new ≡ rewritten now (draws_from D.drawn D.later draw.old (bounds self.old)) self.old }

@@ -54,8 +54,9 @@ impl Part for Request {
     }
 }
 
-/// The request with values in place of its calls: `now` for each NOW, and for each RAND a fresh draw,
-/// in text order.
+/// Replaces the calls of a request by values: `now` for each NOW, and a fresh draw for each RAND, in text
+/// order. A number must be drawable below the bound of each RAND. The result has no calls. If some text
+/// reads as the request, some text reads as the result.
 #[tactic(auto, using(crate::proofs::Drawing::passes_drawable, crate::proofs::Plainness::rewritten_is_plain))]
 pub fn rewrite<D: Draw>(mut request: Request, now: i64, draw: &mut D) -> Request
     requires { RandsAreDrawable request }

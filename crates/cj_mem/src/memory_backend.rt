@@ -11,15 +11,15 @@ use cj_table::Tables;
 use std::alloc::Global;
 use std::marker::Model;
 
-/// A backend whose tables stand in memory as ordered trees. It never fails. It tells what it holds,
-/// but from a change that was not carried out for want of memory to the next load that is. What it
-/// holds is changed only by what is carried out, and is what it answers by, told or not. All that
-/// it holds can be stored.
+/// A backend whose tables are ordered trees in memory. It never answers `Failed`. Contracts see what it
+/// holds, except from a change that ran out of memory to the next load that is carried out. Only calls that
+/// are carried out change what it holds, and it answers by that, seen or not. All that it holds can be
+/// stored.
 #[derive(Drop)]
 pub struct MemBackend {
     alloc: Global,
     tables: Tables,
-    /// Whether no change has wanted memory since the last load that was carried out.
+    /// Whether no change has run out of memory since the last load that was carried out.
     known: bool,
     asks: u64,
     begun: Vec<u64>,
@@ -52,7 +52,7 @@ fn remove(begun: &mut Vec<u64>, tx: u64)
     begun.retain(|other| *other != tx);
 }
 
-/// The tables of a database, and the transactions that have a draft in it.
+/// The trees of a database, and the transactions that have a draft in it.
 fn restored(alloc: Global, db: Db) -> Result<(Tables, Vec<u64>), NoMemory>
     requires { IsDatabase db }
     ensures { IfOk result (λ made. (made.0 ≡ db) × (made.1.items ≡ writers db)) }
@@ -65,7 +65,7 @@ fn restored(alloc: Global, db: Db) -> Result<(Tables, Vec<u64>), NoMemory>
 impl MemBackend {
     ghost use Rattle.cj_mem.specs.MemoryBackends.{AddsBegun, Enters, EntersChange, fresh_state};
 
-    /// A backend of no tables, which takes its memory from here.
+    /// A backend without tables, which allocates from `alloc`.
     pub fn new(alloc: Global) -> MemBackend
         ensures { result ≡ fresh_state }
     {
@@ -79,7 +79,7 @@ impl MemBackend {
         }
     }
 
-    /// Enters a call.
+    /// Enters a call: remembers its login. After `NoMemory` the state is unchanged.
     fn enter(&mut self, user: &Text) -> Result<(), BackendError>
         ensures { Enters self.old user.now result self.new }
     {
@@ -95,7 +95,7 @@ impl MemBackend {
         self.known = false;
     }
 
-    /// Gives a change up for want of memory.
+    /// Gives up a change that ran out of memory: contracts no longer see the contents.
     fn starve(&mut self) -> BackendError
         ensures error { result ≡ BackendError.NoMemory }
         ensures state { self.new ≡ record self.old { told = None } }
@@ -292,7 +292,8 @@ impl Backend for MemBackend {
         Ok(self.tables.to_db()?)
     }
 
-    /// Takes all its memory before it changes anything.
+    /// Allocates everything before the backend changes, so that an error leaves the earlier database in
+    /// place.
     fn load(&mut self, db: Db) -> Result<(), BackendError>
         requires { IsStorable db }
         ensures told { self.new.told ≡ told_loaded true db result }

@@ -1,4 +1,4 @@
-//! A text that is being written.
+//! A buffer for a text that is being written.
 
 ghost use Rattle.std.specs.Prelude.{◌≡◌, ◌++◌, [], OnErr, OnOk};
 ghost use Rattle.cj_print.specs.Ascii.{IsAsciiText};
@@ -7,7 +7,7 @@ use cj_model::{Name, NoMemory, Text};
 use std::alloc::Global;
 use std::marker::Model;
 
-/// What is written so far, which is a text at each moment.
+/// The text written so far, which is valid after each step.
 #[derive(Drop)]
 pub struct TextBuffer {
     bytes: Vec<u8>,
@@ -25,6 +25,7 @@ impl Model for TextBuffer {
 }
 
 impl TextBuffer {
+    /// An empty text, without allocation.
     pub fn new(alloc: Global) -> TextBuffer
         ensures { result ≡ [] }
     {
@@ -33,7 +34,7 @@ impl TextBuffer {
         }
     }
 
-    /// Adds words or signs of ASCII.
+    /// Appends bytes of ASCII. After `NoMemory` the text is unchanged.
     pub fn push_ascii(&mut self, words: &[u8]) -> Result<(), NoMemory>
         requires { IsAsciiText words.now }
         ensures ok { OnOk result (self.new ≡ self.old ++ words.now) }
@@ -43,6 +44,7 @@ impl TextBuffer {
         Ok(())
     }
 
+    /// Appends a name. After `NoMemory` the text is unchanged.
     pub fn push_name(&mut self, name: &Name) -> Result<(), NoMemory>
         ensures ok { OnOk result (self.new ≡ self.old ++ name.now) }
         ensures err { OnErr result (self.new ≡ self.old) }
@@ -51,6 +53,7 @@ impl TextBuffer {
         Ok(())
     }
 
+    /// Appends a text. After `NoMemory` the text is unchanged.
     pub fn push_text(&mut self, text: &Text) -> Result<(), NoMemory>
         ensures ok { OnOk result (self.new ≡ self.old ++ text.now) }
         ensures err { OnErr result (self.new ≡ self.old) }
@@ -59,7 +62,7 @@ impl TextBuffer {
         Ok(())
     }
 
-    /// What was written. It takes no memory.
+    /// The text that was written, without allocation.
     pub fn into_text(self) -> Text
         ensures { result ≡ self }
     {

@@ -1,4 +1,4 @@
-//! Conditions, with parentheses where they are needed alone.
+//! Conditions, with parentheses only where they are needed.
 
 ghost use Rattle.std.specs.Prelude.{◌≡◌, ◌++◌, OnOk};
 ghost use Rattle.cj_model.specs.Proving.ConditionNodes.{condition_of_node};
@@ -61,7 +61,7 @@ fn closing(needed: bool) -> &'static [u8]
     if needed { b")" } else { b"" }
 }
 
-/// Adds the condition, in parentheses where they are needed.
+/// Appends the condition, in parentheses if `needed`.
 fn append_node(
     alloc: Global,
     text: &mut TextBuffer,
@@ -96,7 +96,8 @@ fn append_node(
     Ok(())
 }
 
-/// Adds WHERE and the condition, if there is one.
+/// Appends WHERE and the condition, if there is one. After `NoMemory` the contract says nothing of the
+/// text.
 pub fn append_where(
     alloc: Global,
     text: &mut TextBuffer,

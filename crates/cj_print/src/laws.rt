@@ -4,19 +4,20 @@ ghost use Rattle.cj_model.specs.Sql.Literals.{LiteralsReadBack};
 ghost use Rattle.cj_print.specs.Canonical.{CanonicalReadsBack};
 ghost use Rattle.cj_print.specs.Stored.{StorableIsWritten};
 
-/// The literal of a value reads as that value.
+/// The law that the literal of a value reads as that value.
 #[tactic(auto, using(crate::proofs::ReadBack::literals_read_back))]
 pub fn literals_read_back()
     ensures { LiteralsReadBack }
 {}
 
-/// Wherever some text reads as a request, its canonical text reads as it.
+/// The law that a request which some text reads as is what its canonical text reads as.
 #[tactic(auto, using(crate::proofs::CanonicalReads::canonical_reads_back))]
 pub fn canonical_reads_back()
     ensures { CanonicalReadsBack }
 {}
 
-/// Each table of a storable database can be written down: some text reads as the CREATE of its schema, and as the INSERT of each row.
+/// The law that a storable database can be written down. Some text reads as the CREATE of each table's
+/// schema, and some as the INSERT of each row.
 pub fn storable_is_written()
     ensures { StorableIsWritten }
 {}

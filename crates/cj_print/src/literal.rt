@@ -8,7 +8,7 @@ ghost use Rattle.cj_model.specs.Sql.Literals.{literal};
 use cj_model::{NoMemory, Text, Value};
 use std::alloc::Global;
 
-/// The number in decimal, with `-` where it is negative.
+/// The number in decimal, with `-` if it is negative. Fails only with `NoMemory`.
 pub fn write_number(alloc: Global, number: i64) -> Result<Text, NoMemory>
     ensures { IfOk result (λ text. text ≡ signed_decimal number) }
 {
@@ -16,7 +16,7 @@ pub fn write_number(alloc: Global, number: i64) -> Result<Text, NoMemory>
     Ok(Text::of(digits.into_bytes()).unwrap())
 }
 
-/// The count in decimal.
+/// The count in decimal. Fails only with `NoMemory`.
 pub fn write_count(alloc: Global, count: u64) -> Result<Text, NoMemory>
     ensures { IfOk result (λ text. text ≡ decimal count) }
 {
@@ -24,7 +24,7 @@ pub fn write_count(alloc: Global, count: u64) -> Result<Text, NoMemory>
     Ok(Text::of(digits.into_bytes()).unwrap())
 }
 
-/// Adds the byte, twice where it is a quote.
+/// Appends the byte, twice if it is a quote.
 fn push_doubled(bytes: &mut Vec<u8>, b: u8) -> Result<(), NoMemory>
     ensures { OnOk result (bytes.new.items ≡ bytes.old.items ++ doubled (b ∷ [])) }
 {
@@ -35,7 +35,7 @@ fn push_doubled(bytes: &mut Vec<u8>, b: u8) -> Result<(), NoMemory>
     Ok(())
 }
 
-/// The bytes in quotes, with each quote in them twice.
+/// The bytes in quotes, with each quote in them doubled.
 fn quoted(alloc: Global, bytes: &[u8]) -> Result<Vec<u8>, NoMemory>
     ensures { IfOk result (λ quoted. quoted.items ≡ 39 ∷ doubled bytes.now ++ 39 ∷ []) }
 {
@@ -55,7 +55,7 @@ fn write_text(alloc: Global, text: &Text) -> Result<Text, NoMemory>
     Ok(Text::of(quoted).unwrap())
 }
 
-/// The value's literal, as a statement has it.
+/// The literal of a value, as statements have it. Fails only with `NoMemory`.
 pub fn write_value(alloc: Global, value: &Value) -> Result<Text, NoMemory>
     ensures { IfOk result (λ text. text ≡ literal value.now) }
 {

@@ -1,4 +1,4 @@
-//! What a statement is made of.
+//! The parts that statements consist of.
 
 ghost use Rattle.std.specs.Prelude.{◌≡◌, ◌++◌, ℕ, List, OnOk};
 ghost use Rattle.cj_print.specs.Ascii.{IsAsciiText};
@@ -25,16 +25,16 @@ use crate::literal::{write_number, write_value};
 use cj_model::{ColDef, ColRef, Expr, Item, Key, Kind, Name, NoMemory, Set, Term, Tuple};
 use std::alloc::Global;
 
-/// A part of a statement that may stand in a list.
+/// A part of a statement that may be in a list.
 pub trait Part {
     ghost written: { Self → List ℕ };
 
-    /// Adds its canonical text.
+    /// Appends the part's canonical text. After `NoMemory` the contract says nothing of the text.
     fn append(&self, alloc: Global, text: &mut TextBuffer) -> Result<(), NoMemory>
         ensures { OnOk result (text.new ≡ text.old ++ written self.now) };
 }
 
-/// Adds the parts, each behind a comma and a space.
+/// Appends the parts, each after a comma and a space.
 fn append_behind_commas<T: Part>(
     alloc: Global,
     text: &mut TextBuffer,
@@ -49,7 +49,8 @@ fn append_behind_commas<T: Part>(
     Ok(())
 }
 
-/// Adds the parts with a comma and a space between each two.
+/// Appends the parts, with a comma and a space between each two. After `NoMemory` the contract says nothing
+/// of the text.
 pub fn append_separated<T: Part>(
     alloc: Global,
     text: &mut TextBuffer,

@@ -29,7 +29,7 @@ use cj_model::{
 };
 use std::alloc::Global;
 
-/// Adds the list of an INSERT's columns, if there is one.
+/// Appends the list of an INSERT's columns, if there is one.
 fn append_list(alloc: Global, text: &mut TextBuffer, names: &Option<Names>) -> Result<(), NoMemory>
     ensures { OnOk result (text.new ≡ text.old ++ list_text names.now) }
 {
@@ -41,7 +41,7 @@ fn append_list(alloc: Global, text: &mut TextBuffer, names: &Option<Names>) -> R
     Ok(())
 }
 
-/// Adds a statement's first words and the table's name.
+/// Appends a statement's first words and the table's name.
 fn append_head(text: &mut TextBuffer, words: &[u8], table: &Name) -> Result<(), NoMemory>
     requires { IsAsciiText words.now }
     ensures { OnOk result (text.new ≡ text.old ++ (words.now ++ table.now)) }
@@ -177,7 +177,8 @@ fn append_create(alloc: Global, text: &mut TextBuffer, create: &Create) -> Resul
     append_columns(alloc, text, &create.columns)
 }
 
-/// The request's canonical text: wherever some text reads as the request, this one does.
+/// The canonical text of a request. If some text reads as the request, this one does. Fails only with
+/// `NoMemory`.
 pub fn write_sql(alloc: Global, request: &Request) -> Result<Text, NoMemory>
     ensures { IfOk result (λ text. text ≡ canonical request.now) }
 {

@@ -1,4 +1,4 @@
--- Groups of rows that stand in memory as references.
+-- Groups of rows that the code holds by reference.
 use Rattle.std.specs.Prelude.{List, map}
 use Rattle.std.specs.Borrow.{Bor}
 use Rattle.std.specs.Map.Iter.{deref}

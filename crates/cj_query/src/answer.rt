@@ -1,4 +1,4 @@
-//! The answer to a query whose columns are there and fit.
+//! The answer to a query whose columns exist and fit each other.
 
 ghost use Rattle.std.specs.Prelude.{◌≡◌, [], ◌∷◌, true, map, IfOk};
 ghost use Rattle.std.specs.Map.Iter.{deref};
@@ -18,7 +18,7 @@ use cj_expr::{Scope, ValueError};
 use cj_model::{Answer, AnswerRows, Asked, NoMemory, OVERFLOW, Refusal, Select, Value};
 use std::alloc::Global;
 
-/// Keeps at most so many groups, from the front.
+/// Keeps the first groups, at most `limit`.
 fn cut_groups(groups: &mut Vec<&[&[Value]]>, limit: Option<u64>)
     ensures { rows_in groups.new.items ≡ at_most limit (rows_in groups.old.items) }
 {
@@ -27,7 +27,7 @@ fn cut_groups(groups: &mut Vec<&[&[Value]]>, limit: Option<u64>)
     }
 }
 
-/// The answer with these rows.
+/// The answer with these rows, under the names of the query's columns. Fails only with `NoMemory`.
 pub fn answer_with(
     alloc: Global,
     scope: &Scope,
@@ -40,7 +40,7 @@ pub fn answer_with(
     Ok(Asked::Rows(Answer { columns, rows }))
 }
 
-/// The answer with a row for each group.
+/// The answer with one row for each group.
 fn answer_groups(
     alloc: Global,
     scope: &Scope,
@@ -56,7 +56,8 @@ fn answer_groups(
     }
 }
 
-/// The answer with what is asked of each of these rows.
+/// The answer with one row for each of these rows, or the refusal where a sum is outside 64 bits. Fails
+/// only with `NoMemory`.
 pub fn answer_each(
     alloc: Global,
     scope: &Scope,
@@ -71,7 +72,8 @@ pub fn answer_each(
     answer_with(alloc, scope, select, rows)
 }
 
-/// The answer from the rows that meet the condition.
+/// The answer from the rows that meet the condition: grouped, ordered and limited. Fails only with
+/// `NoMemory`.
 pub fn answer_rows(
     alloc: Global,
     scope: &Scope,
@@ -88,7 +90,7 @@ pub fn answer_rows(
     answer_groups(alloc, scope, select, &groups)
 }
 
-/// The rows of the answer to a query for nothing but the number of rows.
+/// The rows of the answer to a query that asks only for the number of rows.
 fn count_rows(alloc: Global, select: &Select, count: usize) -> Result<AnswerRows, NoMemory>
     ensures { IfOk result (λ rows. rows ≡ at_most select.now.limit (counted.counts_row (queries.items_listed select.now.items) count ∷ [])) }
 {
@@ -99,7 +101,7 @@ fn count_rows(alloc: Global, select: &Select, count: usize) -> Result<AnswerRows
     Ok(rows)
 }
 
-/// The answer to a query for nothing but the number of rows.
+/// The answer to a query that asks only for the number of rows. Fails only with `NoMemory`.
 pub fn answer_counts(
     alloc: Global,
     scope: &Scope,

@@ -1,4 +1,4 @@
-//! Whether a query's columns are there and fit each other, and whether its kinds agree.
+//! Whether a query's columns exist and fit each other, and whether its kinds agree.
 
 ghost use Rattle.std.specs.Prelude.{◌≡◌, ◌||◌, not, option_to_list};
 ghost use Rattle.std.specs.List.{list_any};
@@ -11,14 +11,14 @@ use cj_expr::{Scope, same_kind};
 use cj_model::{BAD_COLUMNS, ColRef, Item, Items, Key, Kind, NO_COLUMN, Select, WRONG_TYPE};
 use cj_search::{where_has_unknown_column, where_mixes_kinds};
 
-/// The place of a column. One that is not there stands for the first.
+/// The index of a column in the scope. An unknown column has index 0.
 pub fn place_in(scope: &Scope, column: &ColRef) -> usize
     ensures { result ≡ scopes.column_place scope.now column.now }
 {
     scope.place(column).unwrap_or(0)
 }
 
-/// The items that are listed, none for `*`.
+/// The items that the query lists; none for `*`.
 pub fn listed(items: &Items) -> &[Item]
     ensures { result.now ≡ queries.items_listed items.now }
 {
@@ -28,7 +28,7 @@ pub fn listed(items: &Items) -> &[Item]
     }
 }
 
-// ---- columns that are not there
+// ---- unknown columns
 
 fn item_has_unknown_column(scope: &Scope, item: &Item) -> bool
     ensures { result ≡ list_any (scopes.is_unknown_column scope.now) (queries.columns_of_item item.now) }
@@ -70,7 +70,7 @@ fn keys_or_group_have_unknown_column(scope: &Scope, select: &Select) -> bool
         || keys_have_unknown_column(scope, select.order.as_slice())
 }
 
-/// Whether the query names a column that is not there, outside its condition.
+/// Whether the query names an unknown column outside its condition.
 fn columns_have_unknown_column(scope: &Scope, select: &Select) -> bool
     ensures { result ≡ list_any (scopes.is_unknown_column scope.now) (queries.columns_named select.now) }
 {
@@ -86,7 +86,7 @@ fn is_plain(item: &Item) -> bool
     matches!(item, Item::Col(_))
 }
 
-/// Whether the rows are counted or summed.
+/// Whether an item is COUNT or SUM.
 pub fn aggregates(items: &Items) -> bool
     ensures { result ≡ queries.has_aggregate items.now }
 {
@@ -176,8 +176,8 @@ fn mixes_kinds(scope: &Scope, select: &Select) -> bool
 
 // ---- the first refusal
 
-/// The code with which the query is refused, whatever the rows are: for a column that is not
-/// there, then for columns that do not fit each other, then for kinds.
+/// The code of the query's first refusal that does not depend on rows, or none. Unknown columns come first,
+/// then columns that do not fit each other, then kinds.
 pub fn refusal(scope: &Scope, select: &Select) -> Option<u16>
     ensures { result ≡ refused.code_of scope.now select.now }
 {

@@ -20,7 +20,7 @@ fn is_same(left: &[Value], right: &[Value], place: usize) -> bool
     compare_at(place, left, right).is_eq()
 }
 
-/// How many rows at the front have this row's value at a place.
+/// The number of rows at the front that have this row's value at index `place`.
 fn same_len(first: &[Value], rows: &[&[Value]], place: usize) -> usize
     ensures is { result ≡ prefix_len (same_at place first.now) (map deref rows.now) }
     ensures within { result ≤ length rows.now }
@@ -35,7 +35,7 @@ fn same_len(first: &[Value], rows: &[&[Value]], place: usize) -> usize
     len
 }
 
-/// How many rows at the front have the first one's value at a place.
+/// The number of rows at the front that have the first one's value at index `place`.
 fn run_len(rows: &[&[Value]], place: usize) -> usize
     ensures is { result ≡ run_length place (map deref rows.now) }
     ensures within { result ≤ length rows.now }
@@ -47,7 +47,7 @@ fn run_len(rows: &[&[Value]], place: usize) -> usize
     }
 }
 
-/// The rows cut where the value at a place changes.
+/// The rows, cut into runs where the value at index `place` changes.
 fn runs<'b, 'a>(
     alloc: Global,
     rows: &'b [&'a [Value]],
@@ -65,7 +65,7 @@ fn runs<'b, 'a>(
     Ok(out)
 }
 
-/// Each row by itself.
+/// One group for each row. Fails only with `NoMemory`.
 pub fn singles<'b, 'a>(
     alloc: Global,
     rows: &'b [&'a [Value]],
@@ -79,7 +79,7 @@ pub fn singles<'b, 'a>(
     Ok(out)
 }
 
-/// All rows together.
+/// One group of all rows.
 fn whole<'b, 'a>(alloc: Global, rows: &'b [&'a [Value]]) -> Result<Vec<&'b [&'a [Value]]>, NoMemory>
     ensures { IfOk result (λ groups. rows_in groups.items ≡ map deref rows.now ∷ []) }
 {
@@ -88,7 +88,7 @@ fn whole<'b, 'a>(alloc: Global, rows: &'b [&'a [Value]]) -> Result<Vec<&'b [&'a 
     Ok(out)
 }
 
-/// The rows in rising order of the values at a place; rows that tie stay as they are.
+/// The rows in rising order of the values at index `place`. Rows that tie keep their order.
 fn sorted<'a>(
     alloc: Global,
     rows: &[&'a [Value]],
@@ -104,7 +104,8 @@ fn sorted<'a>(
     rows_of(alloc, &ranked)
 }
 
-/// The rows with those of one group beside each other, in rising order of the group's value.
+/// The rows in rising order of the GROUP BY column, so that each group is in one piece. Without GROUP BY
+/// the order stays. Fails only with `NoMemory`.
 pub fn arranged<'a>(
     alloc: Global,
     scope: &Scope,
@@ -119,7 +120,8 @@ pub fn arranged<'a>(
     }
 }
 
-/// The rows from which each row of the answer is made, of rows that are arranged.
+/// The groups of rows from which the rows of the answer are made, of rows that are already `arranged`.
+/// Fails only with `NoMemory`.
 pub fn gather<'b, 'a>(
     alloc: Global,
     scope: &Scope,

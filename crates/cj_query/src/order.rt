@@ -15,7 +15,7 @@ use std::alloc::Global;
 use std::cmp::Ordering;
 use std::marker::Model;
 
-/// A place of a row, by which rows rise or fall.
+/// The index of a column by which rows rise or fall.
 #[derive(Drop)]
 pub struct SortKey {
     place: usize,
@@ -31,20 +31,21 @@ impl Model for SortKey {
 }
 
 impl SortKey {
-    /// The place by which rows rise.
+    /// The key by which rows rise at index `place`.
     pub fn rising(place: usize) -> SortKey
         ensures { result ≡ record { place = place; desc = false } }
     {
         SortKey { place, desc: false }
     }
 
+    /// The index of the key's column.
     pub fn place(&self) -> usize
         ensures { result ≡ self.now.place }
     {
         self.place
     }
 
-    /// Whether rows fall by it.
+    /// Whether rows fall by this key.
     pub fn falls(&self) -> bool
         ensures { result ≡ self.now.desc }
     {
@@ -61,7 +62,8 @@ fn sort_key_of(key: &Key, scope: &Scope) -> SortKey
     }
 }
 
-/// The keys by their columns' places. A column that is not there stands for the first.
+/// Binds the keys of ORDER BY, each column to its index in the scope. An unknown column has index 0. Fails
+/// only with `NoMemory`.
 pub fn sort_keys(alloc: Global, keys: &[Key], scope: &Scope) -> Result<Vec<SortKey>, NoMemory>
     ensures { IfOk result (λ out. out.items ≡ map (queries.sort_key_of scope.now) keys.now) }
 {
@@ -72,7 +74,7 @@ pub fn sort_keys(alloc: Global, keys: &[Key], scope: &Scope) -> Result<Vec<SortK
     Ok(out)
 }
 
-/// The order of two rows by their values at a place. Past a row's end stands 0.
+/// The order of two rows by their values at index `place`. Past a row's end the value is 0.
 pub fn compare_at(place: usize, left: &[Value], right: &[Value]) -> Ordering
     ensures { result ≡ by_key place left.now right.now }
 {
@@ -107,7 +109,7 @@ pub fn compare(keys: &[SortKey], left: &[Value], right: &[Value]) -> Ordering
     Ordering::Equal
 }
 
-/// The values of a group's first row, none of an empty group.
+/// The values of a group's first row; none for an empty group.
 pub fn first_values<'a>(group: &[&'a [Value]]) -> &'a [Value]
     ensures { result.now ≡ first_row (map deref group.now) }
 {
@@ -117,7 +119,8 @@ pub fn first_values<'a>(group: &[&'a [Value]]) -> &'a [Value]
     }
 }
 
-/// Puts groups in the order of their first rows by the keys; groups that tie stay as they are.
+/// Sorts groups by their first rows in the order of the keys. Groups that tie keep their order. After
+/// `NoMemory` the contract says nothing of the groups.
 pub fn sort_groups(groups: &mut Vec<&[&[Value]]>, keys: &[SortKey]) -> Result<(), NoMemory>
     ensures { OnOk result (rows_in groups.new.items ≡ sorted_by (λ g h. sorts_before keys.now (first_row g) (first_row h)) (rows_in groups.old.items)) }
 {

@@ -1,4 +1,4 @@
-//! A query's items with their columns by place, found once and not for each row.
+//! A query's items with their columns by index, which are found once and not for each row.
 
 ghost use Rattle.std.specs.Prelude.{◌≡◌, map, IfOk};
 ghost use Rattle.cj_query.specs.Projections as projections;
@@ -8,16 +8,16 @@ use cj_expr::Scope;
 use cj_model::{Item, Items, NoMemory};
 use std::alloc::Global;
 
-/// An item with its column by place.
+/// An item with its column by index.
 #[derive(Drop)]
 pub enum BoundItem {
-    /// The value of a group's first row.
+    /// The value at this index of a group's first row.
     Value(usize),
     Count,
     Sum(usize),
 }
 
-/// What the answer has of each group.
+/// The values that the answer has of each group.
 #[derive(Drop)]
 pub enum Projection {
     /// The whole first row.
@@ -25,7 +25,7 @@ pub enum Projection {
     Items(Vec<BoundItem>),
 }
 
-/// The item by place. A column that is not there stands for the first.
+/// An item with its column by index. An unknown column has index 0.
 fn bound(scope: &Scope, item: &Item) -> BoundItem
     ensures { result ≡ projections.bound_item_of scope.now item.now }
 {
@@ -46,7 +46,7 @@ fn bound_each(alloc: Global, scope: &Scope, items: &[Item]) -> Result<Vec<BoundI
     Ok(out)
 }
 
-/// The items by place.
+/// Binds the items of a query, each column to its index in the scope. Fails only with `NoMemory`.
 pub fn projection_of(alloc: Global, scope: &Scope, items: &Items) -> Result<Projection, NoMemory>
     ensures { IfOk result (λ projection. projections.items_of projection ≡ projections.bound_items scope.now items.now) }
 {

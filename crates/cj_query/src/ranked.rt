@@ -1,4 +1,4 @@
-//! Rows in the order of keys, with the value of the first key at hand.
+//! Rows in the order of keys, each with the value of its first key beside it.
 
 ghost use Rattle.std.specs.Prelude.{◌≡◌, map, IfOk, OnOk};
 ghost use Rattle.std.specs.Map.Iter.{deref};
@@ -13,7 +13,7 @@ use cj_model::{NoMemory, Text, Value};
 use std::alloc::Global;
 use std::cmp::Ordering;
 
-/// An order by keys, of which there is at least one, and how many rows of it are wanted at most.
+/// An order by at least one key, and how many rows of it are wanted.
 #[derive(Drop)]
 pub struct Ranking<'k> {
     pub first: &'k SortKey,
@@ -21,21 +21,21 @@ pub struct Ranking<'k> {
     pub limit: Option<u64>,
 }
 
-/// The value of a row's first key. A number stands here itself, so that no comparison looks it up.
+/// The value of a row's first key. A number is held here itself, so that comparisons need no look-up.
 #[derive(Clone, Copy)]
 pub enum Lead<'a> {
     Int(i64),
     Text(&'a Text),
 }
 
-/// A row with the value of its first key, which is taken once.
+/// A row with the value of its first key beside it, which is read once.
 #[derive(Clone, Copy)]
 pub struct Ranked<'a> {
     lead: Lead<'a>,
     row: &'a [Value],
 }
 
-/// The value at a place of a row; 0 past its end.
+/// The value at index `place` of a row; 0 past its end.
 fn lead_at<'a>(row: &'a [Value], place: usize) -> Lead<'a>
     ensures { ranks.lead_value result ≡ cell row.now place }
 {
@@ -47,13 +47,14 @@ fn lead_at<'a>(row: &'a [Value], place: usize) -> Lead<'a>
 }
 
 impl<'a> Ranked<'a> {
+    /// A row with its value for the ranking's first key beside it.
     pub fn of(row: &'a [Value], ranking: &Ranking) -> Ranked<'a>
         ensures { ranks.seen result ≡ ranks.ranked_by ranking.now row.now }
     {
         Ranked::at(row, ranking.first.place())
     }
 
-    /// A row with its value at a place.
+    /// A row with its value at index `place` beside it.
     pub fn at(row: &'a [Value], place: usize) -> Ranked<'a>
         ensures { ranks.seen result ≡ ranks.led_by place row.now }
     {
@@ -63,7 +64,7 @@ impl<'a> Ranked<'a> {
         }
     }
 
-    /// The order of the value at hand to this one.
+    /// The order of the value beside the row to another value.
     pub fn order_to(&self, value: &Value) -> Ordering
         ensures { result ≡ value_cmp (ranks.lead_value self.now.lead) value.now }
     {
@@ -75,6 +76,7 @@ impl<'a> Ranked<'a> {
         }
     }
 
+    /// The row without the value beside it.
     pub fn row(&self) -> &'a [Value]
         ensures { result.now ≡ self.now.row.now }
     {
@@ -93,7 +95,7 @@ fn compare_leads(left: &Lead, right: &Lead) -> Ordering
     }
 }
 
-/// The order of two rows by the first key.
+/// The order of two rows by the ranking's first key.
 fn compare_first(first: &SortKey, left: &Lead, right: &Lead) -> Ordering
     ensures { result ≡ ranks.by_lead first.now (ranks.lead_value left.now) (ranks.lead_value right.now) }
 {
@@ -104,7 +106,7 @@ fn compare_first(first: &SortKey, left: &Lead, right: &Lead) -> Ordering
     }
 }
 
-/// The order of two rows by the values at hand, then by the other keys.
+/// The order of two rows by the values beside them, then by the other keys.
 pub fn compare_ranked(ranking: &Ranking, left: &Ranked, right: &Ranked) -> Ordering
     ensures { result ≡ ranks.by_rank ranking.now (ranks.seen left.now) (ranks.seen right.now) }
 {
@@ -115,7 +117,8 @@ pub fn compare_ranked(ranking: &Ranking, left: &Ranked, right: &Ranked) -> Order
     compare(ranking.rest, left.row, right.row)
 }
 
-/// Puts rows in order; rows that tie stay as they are.
+/// Sorts rows in the order of the ranking. Rows that tie keep their order. After `NoMemory` the contract
+/// says nothing of the rows.
 pub fn sort_ranked(rows: &mut Vec<Ranked>, ranking: &Ranking) -> Result<(), NoMemory>
     ensures { OnOk result (map ranks.seen rows.new.items ≡ sorted_by (ranks.ranks_before ranking.now) (map ranks.seen rows.old.items)) }
 {
@@ -123,7 +126,8 @@ pub fn sort_ranked(rows: &mut Vec<Ranked>, ranking: &Ranking) -> Result<(), NoMe
     Ok(())
 }
 
-/// Puts rows in rising order of the values at hand; rows that tie stay as they are.
+/// Sorts rows in rising order of the values beside them. Rows that tie keep their order. After `NoMemory`
+/// the contract says nothing of the rows.
 pub fn sort_by_lead(rows: &mut Vec<Ranked>) -> Result<(), NoMemory>
     ensures { OnOk result (map ranks.seen rows.new.items ≡ sorted_by ranks.leads_before (map ranks.seen rows.old.items)) }
 {
@@ -131,7 +135,7 @@ pub fn sort_by_lead(rows: &mut Vec<Ranked>) -> Result<(), NoMemory>
     Ok(())
 }
 
-/// The rows, as they stand.
+/// The rows without the values beside them, in the same order. Fails only with `NoMemory`.
 pub fn rows_of<'a>(alloc: Global, ranked: &[Ranked<'a>]) -> Result<Vec<&'a [Value]>, NoMemory>
     ensures { IfOk result (λ out. map deref out.items ≡ ranks.rows_seen ranked.now) }
 {

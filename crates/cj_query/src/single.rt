@@ -18,7 +18,7 @@ use cj_search::{Matching, matching_rows, says_key};
 use cj_table::View;
 use std::alloc::Global;
 
-/// The answer from the first of the rows that are found, of each of which what is asked is taken at once.
+/// The answer from the first rows that are found, each copied as it is found.
 fn answer_as_found(
     alloc: Global,
     scope: &Scope,
@@ -33,7 +33,7 @@ fn answer_as_found(
     answer_with(alloc, scope, select, rows)
 }
 
-/// The answer from all rows that meet the condition, of which no more are kept than are needed.
+/// The answer from all rows that meet the condition, of which only the needed ones are kept.
 fn answer_all(
     alloc: Global,
     scope: &Scope,
@@ -57,7 +57,7 @@ fn answer_all(
     }
 }
 
-/// The answer from one table, of which as few rows are looked at as are needed.
+/// The answer from one table, of which only the needed rows are read. Fails only with `NoMemory`.
 pub fn answer_one(
     alloc: Global,
     scope: &Scope,

@@ -1,4 +1,4 @@
-//! The first rows in the order of keys: of many rows, not many more are kept than are wanted.
+//! The first rows in the order of keys: not many more than LIMIT are kept.
 
 ghost use Rattle.std.specs.Prelude.{◌≡◌, ◌≤◌, true, [], ◌∷◌, ◌++◌, None, Some, length, map, option_map, IfOk, OnOk};
 ghost use Rattle.std.specs.Map.Iter.{deref};
@@ -11,23 +11,22 @@ use cj_model::{NoMemory, Value};
 use cj_search::Matching;
 use std::alloc::Global;
 
-/// The rows that may be among the wanted ones.
+/// The rows that may still be wanted.
 #[derive(Drop)]
 struct Kept<'a> {
     rows: Vec<Ranked<'a>>,
-    /// The last of as many rows as are wanted, which stand in front. No row that comes later and is
-    /// not before it is wanted.
+    /// The last of the first LIMIT rows in order. A later row that is not before the bar is not wanted.
     bar: Option<Ranked<'a>>,
 }
 
-/// Whether there are so many rows that it is time to cut them: twice as many as are wanted.
+/// Whether the rows should be cut: there are twice as many as are wanted.
 pub fn is_crowded(count: usize, most: u64) -> bool
     ensures { result ≡ true → most ≤ count }
 {
     0 < count && most <= (count / 2) as u64
 }
 
-/// Leaves the wanted rows, in order.
+/// Keeps the wanted rows, in order.
 fn leave_wanted(rows: &mut Vec<Ranked>, ranking: &Ranking) -> Result<(), NoMemory>
     ensures { OnOk result (map ranks.seen rows.new.items ≡ ranks.wanted ranking.now (map ranks.seen rows.old.items)) }
 {
@@ -49,7 +48,7 @@ impl<'a> Kept<'a> {
         }
     }
 
-    /// Whether the bar is there, and the row is not before it.
+    /// Whether there is a bar, and the row is not before it.
     fn bars(&self, row: &Ranked, ranking: &Ranking) -> bool
         ensures { result ≡ ranks.is_barred (ranks.ranks_before ranking.now) (option_map ranks.seen self.now.bar) (ranks.seen row.now) }
     {
@@ -59,7 +58,7 @@ impl<'a> Kept<'a> {
         }
     }
 
-    /// Leaves the wanted rows, of which there are enough. The last one is the bar.
+    /// Keeps the wanted rows, of which there are enough, and makes the last one the bar.
     fn cut(&mut self, ranking: &Ranking, most: u64) -> Result<(), NoMemory>
         requires limit { ranking.now.limit ≡ Some most }
         requires enough { most ≤ length self.old.rows.items }
@@ -71,7 +70,7 @@ impl<'a> Kept<'a> {
         Ok(())
     }
 
-    /// Cuts the rows where there are many more than are wanted.
+    /// Drops unwanted rows once there are many more than are wanted.
     fn cut_crowd(&mut self, ranking: &Ranking) -> Result<(), NoMemory>
         requires { kept_rows.IsBarred ranking.now self.old }
         ensures stands { OnOk result (kept_rows.WantsAlike ranking.now self.new (kept_rows.rows_kept self.old)) }
@@ -85,7 +84,7 @@ impl<'a> Kept<'a> {
         Ok(())
     }
 
-    /// One more row, behind the others.
+    /// Adds a row after the others, unless the bar shows that it is not wanted.
     fn add(&mut self, row: Ranked<'a>, ranking: &Ranking) -> Result<(), NoMemory>
         requires { kept_rows.IsBarred ranking.now self.old }
         ensures stands { OnOk result (kept_rows.WantsAlike ranking.now self.new (kept_rows.rows_kept self.old ++ ranks.seen row.entry ∷ [])) }
@@ -99,7 +98,7 @@ impl<'a> Kept<'a> {
     }
 }
 
-/// The wanted rows of those that were kept, in order.
+/// The wanted rows among the kept ones, in order.
 fn finished<'a>(
     alloc: Global,
     kept: Kept<'a>,
@@ -112,7 +111,8 @@ fn finished<'a>(
     rows_of(alloc, &rows)
 }
 
-/// The first of the rows that are found, in the order of the keys.
+/// The first of the rows in the order of the keys, at most as many as the ranking wants. Not many more are
+/// held at any time. Fails only with `NoMemory`.
 pub fn first_matching_ranked<'a>(
     alloc: Global,
     rows: Matching<'_, 'a>,

@@ -7,10 +7,10 @@ use Rattle.cj_reply.specs.declared.reply.ReplyError.TheVariants.{NoMemory}
 use Rattle.cj_reply.specs.Encode.{Encodes}
 use Rattle.cj_reply.specs.Decode.{HasWireFields, IsReplyFrame, Decodes}
 
--- bytes are the frame of one reply at most
+-- bytes are the frame of at most one reply
 abbrev pub FramesHaveOneReply : Type 0
 FramesHaveOneReply = (bytes : List ℕ) (one other : Reply) → IsReplyFrame bytes one → IsReplyFrame bytes other → one ≡ other
 
--- what is encoded of a reply that can be on the wire is decoded as this reply, unless memory runs out
+-- an encoded reply that fits the wire is decoded as this reply, unless an allocation fails
 abbrev pub EncodedRepliesAreDecoded : Type 0
 EncodedRepliesAreDecoded = (reply : Reply) (frame : Vec ℕ) (result : Result Reply ReplyError) → HasWireFields reply → Encodes reply (Ok frame) → Decodes frame.items result → (result ≡ Ok reply) ⊎ (result ≡ Err NoMemory)

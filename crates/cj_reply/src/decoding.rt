@@ -1,4 +1,4 @@
-//! Bytes as replies.
+//! Decoding: bytes as replies.
 
 ghost use Rattle.cj_codec.specs.Readings.{ReadsFields};
 ghost use Rattle.cj_reply.specs.Decode.{Decodes};
@@ -106,7 +106,7 @@ impl Field for ReplyField {
     }
 }
 
-/// The kind and the payload behind their number, which are all of the bytes.
+/// The kind and payload after their length, which must be all of the bytes.
 fn body_of(bytes: &[u8]) -> Result<&[u8], ReplyError>
     ensures { FindsBody bytes.now result }
 {
@@ -118,8 +118,9 @@ fn body_of(bytes: &[u8]) -> Result<&[u8], ReplyError>
     Ok(body)
 }
 
-/// The reply whose frame the bytes are, from the first to the last. `Malformed` comes exactly where they are no reply's: of a reply
-/// with names that are names, and texts of at most `TEXT_LIMIT` bytes.
+/// Decodes the reply whose frame the bytes are, from first to last. Fails with `Malformed` if they are the
+/// frame of no reply with valid names and texts of at most `TEXT_LIMIT` bytes. Fails with `NoMemory` if an
+/// allocation fails.
 pub fn decode(alloc: Global, bytes: &[u8]) -> Result<Reply, ReplyError>
     ensures { Decodes bytes.now result }
 {

@@ -2,12 +2,12 @@
 
 ghost use Rattle.cj_reply.specs.Laws.{EncodedRepliesAreDecoded, FramesHaveOneReply};
 
-/// Two replies with one frame are one.
+/// The law that bytes are the frame of at most one reply.
 pub fn frames_have_one_reply()
     ensures { FramesHaveOneReply }
 {}
 
-/// What is encoded of a reply that can be on the wire is decoded as this reply, unless memory runs out.
+/// The law that an encoded reply that fits the wire is decoded as this reply, unless an allocation fails.
 #[tactic(auto, using(crate::proofs::Frames::encoded_decoded))]
 pub fn encoded_replies_are_decoded()
     ensures { EncodedRepliesAreDecoded }

@@ -1,4 +1,4 @@
-//! What an answer's payload is made of, counted and spelled.
+//! The parts of an answer's payload: their sizes and their bytes.
 
 ghost use Rattle.std.specs.Prelude.{◌≡◌, ◌≤◌, ◌++◌, ℕ, List, length, OnOk};
 ghost use Rattle.std.specs.List.{flat_map};
@@ -9,15 +9,16 @@ ghost use Rattle.cj_reply.specs.Encode.{capped};
 use cj_codec::{put_str16, put_value};
 use cj_model::{FRAME_LIMIT, ListOf, ListsOf, Name, NoMemory, Value};
 
-/// A part of a payload: a name behind its length, a value behind its kind, or a list of such parts or of lists of them.
+/// A part of a payload: a name after its length, a value after its kind, a list of such parts, or a list of
+/// lists.
 pub trait Part {
     ghost bytes: { Self → List ℕ };
 
-    /// How many bytes it has; 2^64-1 where there are more.
+    /// The number of the part's bytes, at most 2^64 - 1.
     fn size(&self) -> u64
         ensures { result ≡ capped (length (bytes self.now)) };
 
-    /// Adds its bytes to a frame.
+    /// Appends the part's bytes to a frame. After `NoMemory` the contract says nothing of the frame.
     fn append(&self, frame: &mut Vec<u8>) -> Result<(), NoMemory>
         requires { length (bytes self.now) ≤ FRAME_LIMIT }
         ensures { OnOk result (frame.new.items ≡ frame.old.items ++ bytes self.now) };
@@ -50,7 +51,7 @@ impl Part for Value {
     }
 }
 
-/// How many bytes the parts have; 2^64-1 where there are more.
+/// The number of the parts' bytes together, at most 2^64 - 1.
 fn parts_size<T: Part>(parts: &[T]) -> u64
     ensures { result ≡ capped (length (flat_map T.bytes parts.now)) }
 {

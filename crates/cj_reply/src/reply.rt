@@ -1,4 +1,4 @@
-//! Replies as bytes.
+//! Encoding: replies as bytes.
 
 ghost use Rattle.std.specs.Prelude.{◌≡◌, ◌≤◌, ◌++◌, IfOk, OnOk};
 ghost use Rattle.cj_model.specs.Wire.Replies.{reply_body, reply_bytes, reply_length, IsEven};
@@ -11,10 +11,11 @@ use cj_model::{Answer, FRAME_LIMIT, NoMemory, Refusal, Reply};
 use std::alloc::Global;
 use thiserror::Error;
 
-/// Why a reply has no frame, or bytes are no reply's.
+/// Why a reply has no frame, or bytes are not the frame of a reply.
 #[derive(Clone, Copy, Debug, PartialEq, Eq, Error)]
 pub enum ReplyError {
-    /// Kind and payload have so many bytes, or 2^64-1 where there are more.
+    /// The reply exceeds the limit of a frame. The number is that of its bytes of kind and payload, at most
+    /// 2^64 - 1.
     #[error("a reply of {0} bytes")]
     TooLarge(u64),
     /// The bytes are not the frame of a reply.
@@ -35,7 +36,7 @@ impl From<NoMemory> for ReplyError {
     }
 }
 
-/// The frame of a count.
+/// The frame of a `Done` reply with this count of rows, without allocation.
 pub fn encode_done(count: u64) -> [u8; 13]
     ensures { result ≡ reply_bytes (Done count) }
 {
@@ -45,7 +46,7 @@ pub fn encode_done(count: u64) -> [u8; 13]
     ]
 }
 
-/// The frame of the result cache's hits and misses.
+/// The frame of a `Stats` reply with the result cache's hits and misses, without allocation.
 pub fn encode_stats(hits: u64, misses: u64) -> [u8; 21]
     ensures { result ≡ reply_bytes (Stats hits misses) }
 {
@@ -57,7 +58,7 @@ pub fn encode_stats(hits: u64, misses: u64) -> [u8; 21]
     ]
 }
 
-/// The frame of a refusal.
+/// The frame of a `Refused` reply, without allocation.
 pub fn encode_refused(refusal: Refusal) -> [u8; 23]
     ensures { result ≡ reply_bytes (Refused refusal) }
 {
@@ -70,7 +71,7 @@ pub fn encode_refused(refusal: Refusal) -> [u8; 23]
     ]
 }
 
-/// How many bytes an answer's kind and payload have; 2^64-1 where there are more.
+/// The number of bytes of an answer's kind and payload, at most 2^64 - 1.
 fn answer_size(answer: &Answer) -> u64
     ensures { result ≡ capped (reply_length (Rows answer.now)) }
 {
@@ -82,7 +83,7 @@ fn answer_size(answer: &Answer) -> u64
         .saturating_add(7)
 }
 
-/// Adds an answer's kind and payload to a frame.
+/// Appends an answer's kind and payload to a frame.
 fn append_answer(frame: &mut Vec<u8>, answer: &Answer) -> Result<(), NoMemory>
     requires even { IsEven answer.now }
     requires size { reply_length (Rows answer.now) ≤ FRAME_LIMIT }
@@ -95,7 +96,7 @@ fn append_answer(frame: &mut Vec<u8>, answer: &Answer) -> Result<(), NoMemory>
     answer.rows.append(frame)
 }
 
-/// The frame of an answer that has so many bytes of kind and payload.
+/// The frame of an answer whose kind and payload have `size` bytes.
 fn answer_frame(alloc: Global, answer: &Answer, size: u32) -> Result<Vec<u8>, NoMemory>
     requires even { IsEven answer.now }
     requires size { size ≡ reply_length (Rows answer.now) }
@@ -108,7 +109,7 @@ fn answer_frame(alloc: Global, answer: &Answer, size: u32) -> Result<Vec<u8>, No
     Ok(frame)
 }
 
-/// The frame of an answer, or how large it would be.
+/// The frame of an answer, or its size if that exceeds the limit.
 fn encode_rows(alloc: Global, answer: &Answer) -> Result<Vec<u8>, ReplyError>
     requires { IsEven answer.now }
     ensures { Encodes (Rows answer.now) result }
@@ -120,15 +121,16 @@ fn encode_rows(alloc: Global, answer: &Answer) -> Result<Vec<u8>, ReplyError>
     Ok(answer_frame(alloc, answer, size as u32)?)
 }
 
-/// A frame in memory of its own.
+/// A copy of a frame in an allocation of its own.
 fn owned(alloc: Global, frame: &[u8]) -> Result<Vec<u8>, NoMemory>
     ensures { IfOk result (λ copy. copy.items ≡ frame.now) }
 {
     Ok(Vec::from_slice(alloc, frame)?)
 }
 
-/// The frame of a reply. `TooLarge` tells how many bytes kind and payload have, exactly where
-/// that is over the limit of a frame; nothing is allocated then.
+/// Encodes a reply as its frame. Each row of an answer must have one value for each column. Fails with
+/// `TooLarge` if kind and payload exceed the limit of a frame, and then allocates nothing. `NoMemory` is
+/// answered only within the limit.
 pub fn encode(alloc: Global, reply: &Reply) -> Result<Vec<u8>, ReplyError>
     requires { IsSendable reply.now }
     ensures { Encodes reply.now result }

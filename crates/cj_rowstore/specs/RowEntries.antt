@@ -16,62 +16,63 @@ use Rattle.cj_rowstore.specs.Layers.{kept, merged}
 abbrev pub Rows : Type 0
 Rows = List (List Value)
 
--- keys in rising order, each with its row, or with none
+-- keys, each with its row or with none
 abbrev pub RowEntries : Type 0
 RowEntries = List (Value × Option (List Value))
 
--- a key is known, with a row or with none
+-- the entries have this key, with a row or with none
 abbrev pub knows : RowEntries → Value → Bool
 knows es key = is_some (at value_cmp key es)
 
--- each key of the changes is known
+-- the entries have each key of the changes
 abbrev pub KnowsKeys : RowEntries → RowEntries → Type 0
 KnowsKeys es changes = All (λ c. knows es c.0 ≡ true) changes
 
--- the rows with their keys, where the key stands at a place
+-- the rows, each with its key, which is its value at index `k`
 abbrev pub keyed : ℕ → List (List Value) → List (Value × List Value)
 keyed k rows = map (λ r. (cell r k, r)) rows
 
--- the rows that are there, with changes laid over them
+-- the rows of the entries with the changes made, each with its key
 abbrev pub overlaid : RowEntries → RowEntries → List (Value × List Value)
 overlaid es changes = merged value_cmp (kept es) changes
 
--- the entries from a key on
+-- the entries whose key is `v` or greater
 abbrev pub from_key : {X : Type 0} → Value → List (Value × X) → List (Value × X)
 from_key v es = filter (λ e. is_le (value_cmp v e.0)) es
 
--- the changes that put these rows
+-- the changes that put these rows at their keys
 abbrev pub puts : ℕ → List (List Value) → RowEntries
 puts k rows = fold (λ changes r. insert_entry value_cmp changes (cell r k) (Some r)) [] rows
 
--- the changes that take these rows out
+-- the changes that remove these rows
 abbrev pub removals : ℕ → List (List Value) → RowEntries
 removals k rows = fold (λ changes r. insert_entry value_cmp changes (cell r k) None) [] rows
 
--- which comes first, an entry or a change, where their keys have this order: an entry without a row is passed over
+-- whether the next entry or the next change comes first in this order of their keys, where an entry without a row
+-- always does
 abbrev pub turn : Option (List Value) → Ordering → Ordering
 turn None order = Less
 turn (Some row) order = order
 
--- ---- entries made for keys that changes are to be laid over
+-- ---- entries made for the keys of changes to come
 
--- what the entries show is as before, and each key that was known still is
+-- the entries show the same rows over `below`, and keep each key that they had
 pub record Extends (below old new : RowEntries) : Type 0 where
   pub shown : overlaid below new ≡ overlaid below old
   pub knows : (key : Value) → knows old key ≡ true → knows new key ≡ true
 
--- each key is an old one, or one of the changes: what holds of these holds of it
+-- each key of the new entries is one of the old entries or of the changes
 pub record HasKeysOf (old changes new : RowEntries) : Type 0 where
   pub each : (p : Value → Bool) → All (λ e. p e.0 ≡ true) old → All (λ c. p c.0 ≡ true) changes → All (λ e. p e.0 ≡ true) new
 
 -- ---- changes that turn rows into new ones
 
--- only the change at the row's key is another, and shows over the row what the old one showed over nothing
+-- only the change at the row's key differs, and it makes of the row what the old change made of no row
 pub record SettlesRow (key : Value) (row : List Value) (old new : RowEntries) : Type 0 where
   pub own : unwrap_or (at value_cmp key new) (Some row) ≡ unwrap_or (at value_cmp key old) None
   pub others : (other : Value) → is_at (value_cmp other) key ≡ false → at value_cmp other new ≡ at value_cmp other old
 
--- over the old rows the changes show the new ones
+-- the changes turn the old rows into the new ones
 pub record TurnsInto (k : ℕ) (old new : List (List Value)) (changes : RowEntries) : Type 0 where
   pub rises : KeysRise value_cmp changes
   pub rows : merged value_cmp (keyed k old) changes ≡ keyed k new

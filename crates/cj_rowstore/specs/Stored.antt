@@ -17,25 +17,28 @@ use Rattle.cj_rowstore.specs.RowEntries.{RowEntries, KnowsKeys, keyed, overlaid}
 
 -- ---- what is shown
 
+-- the draft of a stored table as the vocabulary has it
 abbrev pub shown_draft : Schema → RowEntries → Option StoredDraft → Option Draft
 shown_draft schema base None = None
 shown_draft schema base (Some d) = Some (record { tx = d.tx; table = record { schema = schema; rows = values_of (overlaid base d.changes) } })
 
+-- a stored table as a slot of the vocabulary
 abbrev pub slot_shown : Schema → RowEntries → Option StoredDraft → Slot
 slot_shown schema base draft = record { base = record { schema = schema; rows = values_of (kept base) }; draft = shown_draft schema base draft }
 
 -- ---- what is kept
 
--- entries whose keys are their rows' own, and the number of them
+-- each entry has its row's own key, and `n` is the number of entries
 pub record AreRows (k : ℕ) (entries : List (Value × List Value)) (n : ℕ) : Type 0 where
   pub own_keys : entries ≡ keyed k (values_of entries)
   pub count : n ≡ length (values_of entries)
 
--- a draft's changes are of keys that the base knows
+-- the draft's transaction is above 0, its changes concern keys that the base has, and its count is right
 abbrev pub DraftHolds : ℕ → RowEntries → Option StoredDraft → Type 0
 DraftHolds k base None = ⊤
 DraftHolds k base (Some d) = (0 < d.tx) × KeysRise value_cmp d.changes × KnowsKeys base d.changes × AreRows k (overlaid base d.changes) d.count
 
+-- the base's keys rise, its rows are at their own keys and counted, and the draft is sound
 pub record HoldsTable (k : ℕ) (base : RowEntries) (n : ℕ) (d : Option StoredDraft) : Type 0 where
   pub rises : KeysRise value_cmp base
   pub rows : AreRows k (kept base) n
@@ -43,19 +46,19 @@ pub record HoldsTable (k : ℕ) (base : RowEntries) (n : ℕ) (d : Option Stored
 
 -- ---- changes
 
--- the rows that changes leave of rows
+-- the rows that the changes leave of these rows
 abbrev pub rows_after : ℕ → List (List Value) → RowEntries → List (List Value)
 rows_after k rows changes = values_of (merged value_cmp (keyed k rows) changes)
 
--- the slot after changes of the rows that a transaction sees
+-- the slot after changes of the rows that the transaction sees
 abbrev pub changed_slot : Slot → ℕ → RowEntries → Slot
 changed_slot s tx changes = with_table s tx (record { schema = s.base.schema; rows = rows_after s.base.schema.key (seen s tx).rows changes })
 
--- changes of rows that leave rows under their own keys, and the number of these
+-- the changes are in rising key, and leave so many rows, each at its own key
 pub record IsChangeOf (k : ℕ) (old : List (List Value)) (changes : RowEntries) (n : ℕ) : Type 0 where
   pub rises : KeysRise value_cmp changes
   pub rows : AreRows k (merged value_cmp (keyed k old) changes) n
 
--- no row gets another key
+-- the function leaves the key of each row as it is
 pub record KeepsKeys (k : ℕ) (f : List Value → List Value) : Type 0 where
   pub same : (row : List Value) → cell (f row) k ≡ cell row k

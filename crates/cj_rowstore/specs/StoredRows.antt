@@ -6,10 +6,11 @@ use Rattle.cj_model.specs.declared.value.Value.{Value}
 use Rattle.cj_rowstore.specs.declared.stored_row.Storage.{Storage}
 use Rattle.cj_rowstore.specs.declared.stored_row.Storage.TheVariants.{None, Pair, Own}
 
+-- a row, or none
 abbrev pub RowOrNone : Type 0
 RowOrNone = Option (List Value)
 
--- the row that is held, if there is one
+-- the row that the storage holds, if it holds one
 abbrev pub row_held : Storage → RowOrNone
 row_held None = option.None
 row_held (Pair values) = option.Some values

@@ -1,4 +1,12 @@
-//! One table as an ordered tree of its rows, with what a transaction has changed and not yet committed.
+//! One table as an ordered tree of rows by key, with the uncommitted changes of one transaction (its draft).
+//!
+//! Contracts see a `StoredTable` as a slot of the vocabulary, and a `View` as the table that one transaction
+//! sees. A scan is seen as the rows that are left, in rising or falling key. `commit`, `abort`, `edit_rows` and
+//! `keep_rows` can't fail. If `change` runs out of memory, every transaction sees what it saw before.
+//!
+//! The layout of rows is in `stored_row` and `row_map`, walks are in `scan` and `scan_back`. A new way to edit or
+//! test rows in place implements `RowEdit` or `RowTest`. Read `specs/RowEntries` and `specs/Stored` first, then
+//! `proofs/StoredLaws`, `proofs/RowEntryLaws` and `proofs/ScanLaws`.
 #![tactic(auto)]
 
 mod keys;

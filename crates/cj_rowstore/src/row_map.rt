@@ -20,9 +20,9 @@ use std::cmp::Ordering;
 use std::collections::BTreeMap;
 use std::marker::Model;
 
-/// Keys, each with its row, or with none: the rows of a table, or changes of them, where a key
-/// without a row says that its row goes. A key without a row among the rows of a table means
-/// nothing; it keeps a place, so that a row can be put there without memory.
+/// Keys in rising order, each with its row or with none. A `RowMap` holds the rows of a table, or changes
+/// of them, where a key without a row removes its row. Among a table's rows a key without a row means
+/// nothing. It reserves an entry, so that a row can be put there without allocation.
 #[derive(Drop)]
 pub struct RowMap {
     rows: BTreeMap<Value, StoredRow>,
@@ -41,7 +41,7 @@ impl Model for RowMap {
 }
 
 impl RowMap {
-    /// No keys, which takes no memory.
+    /// The map without keys, without allocation.
     pub fn new(alloc: Global) -> RowMap
         ensures { result ≡ [] }
     {
@@ -50,21 +50,21 @@ impl RowMap {
         }
     }
 
-    /// The law that keys rise.
+    /// The law that a map's keys rise.
     pub fn rises(&self)
         ensures { KeysRise value_cmp self.now }
     {
         let _ = &self.rows;
     }
 
-    /// What is known of a key.
+    /// The entry of a key, with a row or without; none if the key has no entry.
     fn get(&self, key: &Value) -> Option<&StoredRow>
         ensures { option_copied result ≡ at value_cmp key.now self.now }
     {
         self.rows.get(key)
     }
 
-    /// The row at a key.
+    /// The row at a key; none if the key has no entry or its entry has no row.
     pub fn row(&self, key: &Value) -> Option<&[Value]>
         ensures { option_copied result ≡ at value_cmp key.now (kept self.now) }
     {
@@ -74,14 +74,15 @@ impl RowMap {
         }
     }
 
+    /// Whether the map has an entry for the key, with a row or without.
     pub fn knows(&self, key: &Value) -> bool
         ensures { result ≡ entries.knows self.now key.now }
     {
         self.rows.contains_key(key)
     }
 
-    /// Puts a row or none at a key; want of memory leaves all as it was, and comes only at a key
-    /// that is not known.
+    /// Puts a row or none at a key. `NoMemory` leaves the map unchanged, and is possible only for a key
+    /// without an entry.
     #[tactic(auto, using(crate::proofs::EntryLaws::rise_from))]
     fn put(&mut self, key: Value, row: StoredRow) -> Result<(), NoMemory>
         ensures ok { OnOk result (self.new ≡ insert_entry value_cmp self.old key row) }
@@ -94,7 +95,7 @@ impl RowMap {
         Ok(())
     }
 
-    /// Puts a row or none at a key; want of memory leaves all as it was.
+    /// Puts a row or none at a key, in place of what was there. `NoMemory` leaves the map unchanged.
     pub fn insert(&mut self, key: Value, row: Option<Row>) -> Result<(), NoMemory>
         ensures ok { OnOk result (self.new ≡ insert_entry value_cmp self.old key row) }
         ensures err { OnErr result (self.new ≡ self.old) }
@@ -104,7 +105,7 @@ impl RowMap {
         self.put(key, StoredRow::of(row))
     }
 
-    /// Makes an entry for a key, at which what shows over `below` stays as it is.
+    /// Makes an entry for a key. What the map shows over `below` stays unchanged.
     #[tactic(auto, using(crate::proofs::RowEntryLaws::extends_itself, crate::proofs::RowEntryLaws::has_keys_itself))]
     fn prepare_key(&mut self, alloc: Global, below: &RowMap, key: &Value) -> Result<(), NoMemory>
         ensures known { OnOk result (entries.knows self.new key.now ≡ true) }
@@ -123,8 +124,8 @@ impl RowMap {
         Ok(())
     }
 
-    /// Whether the keys of changes are known, by one walk over both, where they are so many that it
-    /// costs less than looking each up.
+    /// Whether the map has each key of the changes, by one walk over both. False also where that walk would
+    /// cost more than looking each key up.
     fn knows_all(&self, changes: &RowMap) -> bool
         ensures { result ≡ true → entries.KnowsKeys self.now changes.now }
     {
@@ -140,7 +141,7 @@ impl RowMap {
         true
     }
 
-    /// Makes entries for the keys of changes, or for every second one of them alone.
+    /// Makes entries for the keys of changes, or for every second one of them only.
     fn prepare_keys(
         &mut self,
         alloc: Global,
@@ -164,9 +165,9 @@ impl RowMap {
         Ok(())
     }
 
-    /// Makes entries for the keys of changes, at which what shows over `below` stays as it is. The
-    /// tree's leaves get half of their entries from keys that come in rising order, and the others from
-    /// those that come in between.
+    /// Makes entries for the keys of changes, so that `absorb` can't fail. What the map shows over `below`
+    /// stays unchanged, after `NoMemory` too. Every second key goes first, so that the tree's leaves fill
+    /// up: half from keys in rising order, half from those between.
     pub fn prepare(
         &mut self,
         alloc: Global,
@@ -195,8 +196,8 @@ impl RowMap {
         self.rows.remove(key);
     }
 
-    /// Makes one change, which takes no memory. Where nothing shows below, no entry is kept for a
-    /// row that goes.
+    /// Makes one change, without allocation, at a key that has an entry. Where `below` shows no row, the
+    /// entry of a removed row is dropped.
     fn set(&mut self, below: &RowMap, key: Value, row: StoredRow)
         requires { entries.knows self.old key ≡ true }
         ensures shown { entries.overlaid below.now self.new ≡ changed value_cmp (entries.overlaid below.now self.old) key row }
@@ -214,8 +215,8 @@ impl RowMap {
         };
     }
 
-    /// Whether the changes alone show what they show over these entries, and each has a row. Where the
-    /// first entry has none, all may be new: these stay, since their leaves are fuller.
+    /// Whether the changes can replace all these entries: they cover each key, and each has a row. False
+    /// where the first entry has no row: then the entries stay, since their leaves are fuller.
     fn replaces(&self, old: &RowMap) -> bool
         ensures { result ≡ true → entries.KnowsKeys self.now old.now }
     {
@@ -225,7 +226,8 @@ impl RowMap {
             && self.knows_all(old)
     }
 
-    /// Lays changes over the entries, whose keys are known: this takes no memory.
+    /// Lays changes over the entries, without allocation. Each key of the changes must have an entry, as
+    /// `prepare` makes them.
     pub fn absorb(&mut self, below: &RowMap, changes: RowMap)
         requires { entries.KnowsKeys self.old changes }
         ensures shown { entries.overlaid below.now self.new ≡ merged value_cmp (entries.overlaid below.now self.old) changes }
@@ -256,8 +258,9 @@ impl RowMap {
         }
     }
 
-    /// Fits the change at a row's key to the row: there is none where the row stays as it is, and one
-    /// that takes the row out where there was none.
+    /// Adapts the change at a row's key to the row, which is there below it. The change goes if it puts
+    /// this very row. Where there was no change, one is made that removes the row. After `NoMemory` the
+    /// contract says nothing of the map.
     pub fn settle(&mut self, key: Value, row: &[Value]) -> Result<(), NoMemory>
         ensures settles { OnOk result (entries.SettlesRow key row.now self.old self.new) }
         ensures rises { OnOk result (KeysRise value_cmp self.new) }
@@ -276,7 +279,7 @@ impl RowMap {
 }
 
 impl RowMap {
-    /// Forgets a key that has no row.
+    /// Drops the entry of a key if it has no row.
     #[tactic(auto, using(crate::proofs::RowEntryLaws::copied_none, crate::proofs::RowEntryLaws::forgotten))]
     fn forget_key(&mut self, key: &Value)
         ensures kept { kept self.new ≡ kept self.old }
@@ -288,7 +291,7 @@ impl RowMap {
         }
     }
 
-    /// Forgets those keys of changes that have no row.
+    /// Drops the entries without a row among the keys of changes. All rows stay.
     pub fn forget(&mut self, changes: RowMap)
         ensures kept { kept self.new ≡ kept self.old }
         ensures rises { KeysRise value_cmp self.new }
@@ -301,7 +304,7 @@ impl RowMap {
 }
 
 impl RowMap {
-    /// Makes each row anew in its place, which takes no memory.
+    /// Edits each row in place, without allocation.
     pub fn edit_rows<R: RowEdit>(&mut self, by: &R)
         ensures { self.new ≡ map (λ e. (e.0, option_map (R.edited by.now) e.1)) self.old }
     {
@@ -311,7 +314,7 @@ impl RowMap {
         });
     }
 
-    /// Leaves the rows that pass, which takes no memory. Keys without a row go.
+    /// Keeps only the rows that pass the test, without allocation. Entries without a row go.
     pub fn keep_rows<T: RowTest>(&mut self, by: &T)
         ensures kept { kept self.new ≡ filter (λ e. T.passes by.now e.1) (kept self.old) }
         ensures rises { KeysRise value_cmp self.new }
@@ -327,7 +330,7 @@ impl RowMap {
         self.rows.range(..)
     }
 
-    /// The entries from this key on.
+    /// The entries whose key is `key` or greater.
     #[tactic(auto, using(crate::proofs::FromLaws::range_from))]
     fn entries_from(&self, key: &Value) -> Entries<'_>
         ensures { result ≡ entries.from_key key.now self.now }
@@ -335,21 +338,21 @@ impl RowMap {
         self.rows.range(key..)
     }
 
-    /// The rows, in rising key.
+    /// A scan of all rows, in rising key.
     pub fn scan(&self) -> Scan<'_>
         ensures { result ≡ values_of (kept self.now) }
     {
         Scan::of(self.all_entries())
     }
 
-    /// The rows that changes leave of these, in rising key.
+    /// A scan of the rows that the changes leave of these, in rising key.
     pub fn scan_under<'a>(&'a self, changes: &'a RowMap) -> Scan<'a>
         ensures { result ≡ values_of (entries.overlaid self.now changes.now) }
     {
         Scan::under(self.all_entries(), changes.all_entries())
     }
 
-    /// The rows from this key on, in rising key.
+    /// A scan of the rows whose key is `key` or greater, in rising key.
     #[tactic(auto, using(crate::proofs::FromLaws::kept_part))]
     pub fn scan_from(&self, key: &Value) -> Scan<'_>
         ensures { result ≡ values_of (entries.from_key key.now (kept self.now)) }
@@ -357,7 +360,7 @@ impl RowMap {
         Scan::of(self.entries_from(key))
     }
 
-    /// The rows from this key on that changes leave of these, in rising key.
+    /// A scan of the rows that the changes leave of these, from `key` on, in rising key.
     #[tactic(auto, using(crate::proofs::FromLaws::overlaid_part))]
     pub fn scan_from_under<'a>(&'a self, changes: &'a RowMap, key: &Value) -> Scan<'a>
         ensures { result ≡ values_of (entries.from_key key.now (entries.overlaid self.now changes.now)) }
@@ -367,14 +370,14 @@ impl RowMap {
         Scan::under(self.entries_from(key), changes.entries_from(key))
     }
 
-    /// The rows, in falling key.
+    /// A scan of all rows, in falling key.
     pub fn scan_back(&self) -> ScanBack<'_>
         ensures { result ≡ reverse (values_of (kept self.now)) }
     {
         ScanBack::of(self.all_entries())
     }
 
-    /// The rows that changes leave of these, in falling key.
+    /// A scan of the rows that the changes leave of these, in falling key.
     pub fn scan_back_under<'a>(&'a self, changes: &'a RowMap) -> ScanBack<'a>
         ensures { result ≡ reverse (values_of (entries.overlaid self.now changes.now)) }
     {
@@ -383,7 +386,7 @@ impl RowMap {
         ScanBack::under(self.all_entries(), changes.all_entries())
     }
 
-    /// The row at a key that changes leave of these rows.
+    /// The row at a key after the changes; none if there is none.
     pub fn row_under<'a>(&'a self, changes: &'a RowMap, key: &Value) -> Option<&'a [Value]>
         ensures { option_copied result ≡ at value_cmp key.now (entries.overlaid self.now changes.now) }
     {
@@ -396,7 +399,7 @@ impl RowMap {
     }
 }
 
-/// Takes the entries up to a key; false where they do not have it.
+/// Advances past the entries up to a key. True only if the key is among them.
 fn reaches(rest: &mut Entries, key: &Value) -> bool
     ensures found { result ≡ true → entries.knows rest.old key.now ≡ true }
     ensures rest { (q : Value) → entries.knows rest.new q ≡ true → entries.knows rest.old q ≡ true }
@@ -420,7 +423,7 @@ fn copied(alloc: Global, row: Option<&[Value]>) -> Result<Option<Row>, NoMemory>
     }
 }
 
-/// Whether the row that is kept is this one.
+/// Whether the stored row is there and equals `row`.
 fn holds(kept: &StoredRow, row: &[Value]) -> bool
     ensures { IsTrue result ↔ (kept.now ≡ Some row.now) }
 {

@@ -14,14 +14,14 @@ use std::cmp::Ordering;
 use std::collections::btree_map::Range;
 use std::marker::Model;
 
-/// The entries of a tree that are left.
+/// The entries of a tree that a walk has not passed yet.
 pub(crate) type Entries<'a> = Range<'a, Value, StoredRow>;
 
 /// A key, with its row or with none.
 pub(crate) type Entry<'a> = (&'a Value, &'a StoredRow);
 
-/// Entries, with changes laid over them. The first of each that is left is taken ahead, so that their
-/// keys can be compared.
+/// Entries with changes laid over them. The first of each is read ahead, so that their keys can be
+/// compared.
 #[derive(Drop)]
 struct Layered<'a> {
     entry: Option<Entry<'a>>,
@@ -36,8 +36,7 @@ enum Source<'a> {
     Layered(Layered<'a>),
 }
 
-/// The rows of a table as a transaction sees it, one after another in rising key, which contracts see
-/// as the rows that are left.
+/// The rows of a table as a transaction sees it, in rising key. Contracts see the rows that are left.
 #[derive(Drop)]
 pub struct Scan<'a> {
     source: Source<'a>,
@@ -52,8 +51,8 @@ impl<'a> Model for Scan<'a> {
     ghost view = { λ scan. rows_left scan.source };
 }
 
-/// Which comes first, an entry or a change, where their keys have this order. An entry without a
-/// row is passed over at once.
+/// Whether the next entry or the next change comes first, where their keys have this order. An entry
+/// without a row always comes first, and is passed over.
 pub(crate) fn turn(row: &StoredRow, order: Ordering) -> Ordering
     ensures { result ≡ row_entries.turn row.now order }
 {
@@ -72,7 +71,7 @@ impl<'a> Layered<'a> {
         }
     }
 
-    /// Takes the first of the entries and changes, which may be without a row.
+    /// Takes the first entry or change, which may be without a row.
     fn take(&mut self) -> Option<&'a StoredRow>
         ensures shown { TakesRow rows_shown self.old result self.new }
         ensures fewer { OnSome result (entry_count self.new < entry_count self.old) }
@@ -131,7 +130,7 @@ fn next_row<'a>(entries: &mut Entries<'a>) -> Option<&'a [Value]>
 }
 
 impl<'a> Scan<'a> {
-    /// The rows that are there.
+    /// A scan of the rows of these entries.
     pub(crate) fn of(entries: Entries<'a>) -> Scan<'a>
         ensures { result ≡ values_of (kept entries.entry) }
     {
@@ -140,7 +139,7 @@ impl<'a> Scan<'a> {
         }
     }
 
-    /// The rows that are there with changes laid over them.
+    /// A scan of the rows of these entries, with changes laid over them.
     pub(crate) fn under(entries: Entries<'a>, changes: Entries<'a>) -> Scan<'a>
         ensures { result ≡ values_of (overlaid entries.entry changes.entry) }
     {

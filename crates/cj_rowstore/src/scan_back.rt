@@ -16,8 +16,7 @@ use std::cmp::Ordering;
 use std::iter::DoubleEndedIterator;
 use std::marker::Model;
 
-/// Entries, with changes laid over them. The last of each that is left is taken ahead, so that their
-/// keys can be compared.
+/// Entries with changes laid over them. The last of each is read ahead, so that their keys can be compared.
 #[derive(Drop)]
 struct LayeredBack<'a> {
     entry: Option<Entry<'a>>,
@@ -32,8 +31,7 @@ enum SourceBack<'a> {
     Layered(LayeredBack<'a>),
 }
 
-/// The rows of a table as a transaction sees it, one after another in falling key, which contracts
-/// see as the rows that are left.
+/// The rows of a table as a transaction sees it, in falling key. Contracts see the rows that are left.
 #[derive(Drop)]
 pub struct ScanBack<'a> {
     source: SourceBack<'a>,
@@ -65,7 +63,7 @@ impl<'a> LayeredBack<'a> {
         }
     }
 
-    /// Takes the last of the entries and changes, which may be without a row.
+    /// Takes the last entry or change, which may be without a row.
     fn take(&mut self) -> Option<&'a StoredRow>
         requires { LayersRise self.old }
         ensures shown { TakesRow rows_shown_back self.old result self.new }
@@ -128,7 +126,7 @@ fn next_row<'a>(entries: &mut Entries<'a>) -> Option<&'a [Value]>
 }
 
 impl<'a> ScanBack<'a> {
-    /// The rows that are there.
+    /// A scan from the back of the rows of these entries.
     pub(crate) fn of(entries: Entries<'a>) -> ScanBack<'a>
         ensures { result ≡ reverse (values_of (kept entries.entry)) }
     {
@@ -137,7 +135,8 @@ impl<'a> ScanBack<'a> {
         }
     }
 
-    /// The rows that are there with changes laid over them.
+    /// A scan from the back of the rows of these entries, with changes laid over them. Both must be in
+    /// rising key.
     pub(crate) fn under(entries: Entries<'a>, changes: Entries<'a>) -> ScanBack<'a>
         requires entries { KeysRise value_cmp entries }
         requires changes { KeysRise value_cmp changes }

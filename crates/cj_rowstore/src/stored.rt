@@ -19,18 +19,18 @@ use cj_model::{NoMemory, Schema, Value};
 use std::alloc::Global;
 use std::marker::Model;
 
-/// What a transaction has changed of a table, and not yet committed.
+/// The uncommitted changes of one transaction to a table.
 #[derive(Drop)]
 pub struct StoredDraft {
-    /// The transaction, above 0.
+    /// The transaction's number, above 0.
     tx: u64,
     changes: RowMap,
-    /// The number of rows with the changes.
+    /// The number of the table's rows after the changes.
     count: usize,
 }
 
-/// A table as it is kept, which contracts see as a slot. The base knows each key that the draft
-/// changes, so that a commit takes no memory.
+/// A table in memory, with at most one draft. Contracts see it as a slot. The base has an entry for each
+/// key that the draft changes, so that a commit allocates nothing.
 #[derive(Drop)]
 pub struct StoredTable {
     schema: Schema,
@@ -52,8 +52,8 @@ impl Model for StoredTable {
 }
 
 impl StoredDraft {
-    /// Lays more changes over those of the draft, with which it has so many rows. Want of memory
-    /// leaves what is shown over the base as it was.
+    /// Lays more changes over the draft's, after which `count` rows are left. After `NoMemory` the draft
+    /// shows the same rows over the base.
     #[tactic(auto, using(crate::proofs::RowEntryLaws::keys_twice))]
     fn add(
         &mut self,
@@ -78,7 +78,7 @@ impl StoredDraft {
 }
 
 impl StoredTable {
-    /// A table with no rows.
+    /// A table without rows and without a draft.
     pub fn new(alloc: Global, schema: Schema) -> StoredTable
         ensures { result ≡ record { base = record { schema = schema; rows = [] }; draft = None } }
     {
@@ -90,7 +90,8 @@ impl StoredTable {
         }
     }
 
-    /// A table with the rows of changes over none, of which there are so many. It takes no memory.
+    /// A table whose rows are those that the changes put, `count` of them, without a draft and without
+    /// allocation.
     pub fn of(schema: Schema, changes: RowMap, count: usize) -> StoredTable
         requires { IsChangeOf schema.key [] changes count }
         ensures { result ≡ record { base = record { schema = schema; rows = rows_after schema.key [] changes }; draft = None } }
@@ -103,13 +104,14 @@ impl StoredTable {
         }
     }
 
+    /// The table's schema.
     pub fn schema(&self) -> &Schema
         ensures { result.now ≡ self.now.base.schema }
     {
         &self.schema
     }
 
-    /// The transaction that has a draft.
+    /// The transaction that has a draft of the table; none without a draft.
     pub fn writer(&self) -> Option<u64>
         ensures { result ≡ option_map (λ draft. draft.tx) self.now.draft }
     {
@@ -119,7 +121,7 @@ impl StoredTable {
         }
     }
 
-    /// The other transaction that has a draft.
+    /// The transaction other than `tx` that has a draft of the table; none if there is none.
     pub fn other_writer(&self, tx: u64) -> Option<u64>
         ensures { result ≡ steps.other_writer tx self.now.draft }
     {
@@ -130,8 +132,9 @@ impl StoredTable {
         }
     }
 
-    /// Makes changes of what a transaction, 0 for none, sees, with which it has so many rows. Want of
-    /// memory leaves what is shown as it was.
+    /// Changes the rows that transaction `tx` sees, after which `count` rows are left. With `tx` 0 the
+    /// changes are committed at once. No other transaction may have a draft. After `NoMemory` every
+    /// transaction sees what it saw before.
     pub fn change(
         &mut self,
         alloc: Global,
@@ -163,8 +166,8 @@ impl StoredTable {
         }
     }
 
-    /// Makes each row anew in its place, which takes no memory. No transaction may have a draft, and
-    /// each row keeps its key.
+    /// Edits each row in place, without allocation. No transaction may have a draft, and each row must keep
+    /// its key.
     pub fn edit_rows<R: RowEdit>(&mut self, by: &R)
         requires free { self.old.draft ≡ None }
         requires keys { KeepsKeys self.old.base.schema.key (R.edited by.now) }
@@ -173,8 +176,8 @@ impl StoredTable {
         self.base.edit_rows(by);
     }
 
-    /// Leaves the rows that pass, which are so many; this takes no memory. No transaction may have a
-    /// draft.
+    /// Keeps only the rows that pass the test, of which there are `count`, without allocation. No
+    /// transaction may have a draft.
     pub fn keep_rows<T: RowTest>(&mut self, by: &T, count: usize)
         requires free { self.old.draft ≡ None }
         requires count { count ≡ length (filter (T.passes by.now) self.old.base.rows) }
@@ -184,7 +187,7 @@ impl StoredTable {
         self.count = count;
     }
 
-    /// Makes the transaction's draft the base, which takes no memory.
+    /// Commits the draft of transaction `tx`, without allocation. Nothing changes if `tx` has no draft.
     pub fn commit(&mut self, alloc: Global, tx: u64)
         ensures { self.new ≡ committed tx self.old }
     {
@@ -201,7 +204,7 @@ impl StoredTable {
         }
     }
 
-    /// Forgets the transaction's draft, which takes no memory.
+    /// Drops the draft of transaction `tx`, without allocation. Nothing changes if `tx` has no draft.
     pub fn abort(&mut self, tx: u64)
         ensures { self.new ≡ aborted tx self.old }
     {
@@ -217,7 +220,7 @@ impl StoredTable {
         }
     }
 
-    /// The rows that a transaction sees, in rising key.
+    /// A scan of the rows that transaction `tx` sees, in rising key.
     pub fn scan(&self, tx: u64) -> Scan<'_>
         ensures { result ≡ (seen self.now tx).rows }
     {
@@ -228,7 +231,7 @@ impl StoredTable {
         }
     }
 
-    /// The rows from this key on that a transaction sees, in rising key.
+    /// A scan of the rows that transaction `tx` sees from `key` on, in rising key.
     pub fn scan_from(&self, tx: u64, key: &Value) -> Scan<'_>
         ensures { result ≡ rows_from self.now.base.schema.key key.now (seen self.now tx).rows }
     {
@@ -239,7 +242,7 @@ impl StoredTable {
         }
     }
 
-    /// The rows that a transaction sees, in falling key.
+    /// A scan of the rows that transaction `tx` sees, in falling key.
     pub fn scan_back(&self, tx: u64) -> ScanBack<'_>
         ensures { result ≡ reverse (seen self.now tx).rows }
     {
@@ -250,7 +253,7 @@ impl StoredTable {
         }
     }
 
-    /// The row with this key that a transaction sees.
+    /// The row with this key that transaction `tx` sees, if there is one.
     pub fn find(&self, tx: u64, key: &Value) -> Option<&[Value]>
         ensures { option_copied result ≡ row_with_key self.now.base.schema.key (seen self.now tx).rows key.now }
     {
@@ -261,7 +264,7 @@ impl StoredTable {
         }
     }
 
-    /// The number of rows that a transaction sees.
+    /// The number of rows that transaction `tx` sees.
     pub fn count(&self, tx: u64) -> usize
         ensures { result ≡ length (seen self.now tx).rows }
     {

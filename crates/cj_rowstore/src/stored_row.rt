@@ -1,4 +1,4 @@
-//! Rows as the tree keeps them.
+//! Rows as the tree stores them.
 
 ghost use Rattle.std.specs.Prelude.{◌≡◌, false, Some, is_some, option_copied, option_map, unwrap_or};
 ghost use Rattle.cj_rowstore.specs.StoredRows.{row_held};
@@ -8,18 +8,19 @@ use crate::row_test::RowTest;
 use cj_model::{Row, Value};
 use std::marker::Model;
 
-/// Where a row's values stand.
+/// Where a row's values are stored.
 #[derive(Drop)]
 enum Storage {
     None,
-    /// Beside the key, in the tree's own memory.
+    /// Two values beside the key, in the tree's own memory.
     Pair([Value; 2]),
-    /// In memory of their own.
+    /// A row in an allocation of its own.
     Own(Row),
 }
 
-/// A row, or none, which contracts see as such. A row of two values stands beside its key: a walk over a table of such rows goes
-/// through the tree's memory alone. Others have memory of their own.
+/// A row or none, as an entry of the tree stores it. A row of two values is stored beside its key, so that
+/// a walk over a table of such rows stays in the tree's memory. Longer rows have an allocation of their
+/// own.
 #[derive(Drop)]
 pub(crate) struct StoredRow {
     storage: Storage,
@@ -43,6 +44,7 @@ fn storage_of(row: Row) -> Storage
 }
 
 impl StoredRow {
+    /// Stores a row, or none, without allocation.
     pub fn of(row: Option<Row>) -> StoredRow
         ensures { result ≡ row }
     {
@@ -54,13 +56,14 @@ impl StoredRow {
         }
     }
 
+    /// Whether there is a row.
     pub fn is_some(&self) -> bool
         ensures { result ≡ is_some self.now }
     {
         !matches!(self.storage, Storage::None)
     }
 
-    /// The row's values.
+    /// The row's values; none if there is no row.
     pub fn values(&self) -> Option<&[Value]>
         ensures { option_copied result ≡ self.now }
     {
@@ -71,7 +74,7 @@ impl StoredRow {
         }
     }
 
-    /// Makes the row anew in its place, if there is one.
+    /// Edits the row in place, if there is one.
     pub fn edit<R: RowEdit>(&mut self, by: &R)
         ensures { self.new ≡ option_map (R.edited by.now) self.old }
     {
@@ -82,7 +85,7 @@ impl StoredRow {
         }
     }
 
-    /// Whether there is a row, and it passes.
+    /// Whether there is a row that passes the test.
     pub fn passes<T: RowTest>(&self, by: &T) -> bool
         ensures { result ≡ unwrap_or (option_map (T.passes by.now) self.now) false }
     {

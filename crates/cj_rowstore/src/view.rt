@@ -32,7 +32,7 @@ impl<'a> Model for View<'a> {
 }
 
 impl<'a> View<'a> {
-    /// What transaction `tx`, 0 for none, sees.
+    /// The table of a slot as transaction `tx` sees it; with `tx` 0 as committed.
     pub fn of(stored: &'a StoredTable, tx: u64) -> View<'a>
         requires { IsSlot stored.now }
         ensures { result ≡ seen stored.now tx }
@@ -40,7 +40,7 @@ impl<'a> View<'a> {
         View { stored, tx }
     }
 
-    /// The same once more.
+    /// A second view of this table by this transaction.
     pub fn again(&self) -> View<'a>
         ensures { result ≡ self.now }
     {
@@ -58,7 +58,7 @@ impl<'a> View<'a> {
         stored.schema()
     }
 
-    /// All rows, in rising key.
+    /// A scan of all rows, in rising key.
     pub fn scan(&self) -> Scan<'a>
         ensures { result ≡ self.now.rows }
     {
@@ -66,7 +66,7 @@ impl<'a> View<'a> {
         stored.scan(self.tx)
     }
 
-    /// The rows from this key on, in rising key.
+    /// A scan of the rows whose key is `key` or greater, in rising key.
     pub fn scan_from(&self, key: &Value) -> Scan<'a>
         ensures { result ≡ rows_from self.now.schema.key key.now self.now.rows }
     {
@@ -74,7 +74,7 @@ impl<'a> View<'a> {
         stored.scan_from(self.tx, key)
     }
 
-    /// All rows, in falling key.
+    /// A scan of all rows, in falling key.
     pub fn scan_back(&self) -> ScanBack<'a>
         ensures { result ≡ reverse self.now.rows }
     {
@@ -82,7 +82,7 @@ impl<'a> View<'a> {
         stored.scan_back(self.tx)
     }
 
-    /// The row with this key.
+    /// The row with this key; none if the table has none.
     pub fn find(&self, key: &Value) -> Option<&'a [Value]>
         ensures { option_copied result ≡ row_with_key self.now.schema.key self.now.rows key.now }
     {
@@ -98,7 +98,7 @@ impl<'a> View<'a> {
         stored.count(self.tx)
     }
 
-    /// The law that what is seen is a table.
+    /// The law that a view shows a well-formed table.
     pub fn legal(&self)
         ensures { IsTable self.now }
     {

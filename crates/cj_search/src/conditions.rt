@@ -1,4 +1,4 @@
-//! The conditions of statements.
+//! The WHERE clauses of statements.
 
 ghost use Rattle.std.specs.Prelude.{◌≡◌, option_map, IfOk};
 ghost use Rattle.cj_model.specs.Database.Scopes as scopes;
@@ -7,7 +7,7 @@ use cj_expr::{Predicate, Scope, predicate_of};
 use cj_model::{Cond, NoMemory};
 use std::alloc::Global;
 
-/// Whether a condition names a column that is not there.
+/// Whether a WHERE condition names an unknown column; false without one.
 pub fn where_has_unknown_column(scope: &Scope, cond: &Option<Cond>) -> bool
     ensures { result ≡ scopes.where_has_unknown_column scope.now cond.now }
 {
@@ -17,7 +17,7 @@ pub fn where_has_unknown_column(scope: &Scope, cond: &Option<Cond>) -> bool
     }
 }
 
-/// Whether the sides of a comparison differ in kind.
+/// Whether the sides of some comparison in a WHERE condition differ in kind; false without one.
 pub fn where_mixes_kinds(scope: &Scope, cond: &Option<Cond>) -> bool
     ensures { result ≡ scopes.where_mixes_kinds scope.now cond.now }
 {
@@ -27,7 +27,7 @@ pub fn where_mixes_kinds(scope: &Scope, cond: &Option<Cond>) -> bool
     }
 }
 
-/// The condition with its columns by place.
+/// Binds a WHERE condition, if there is one, to the columns of `scope`. Fails only with `NoMemory`.
 pub fn bound_where(
     alloc: Global,
     scope: &Scope,

@@ -16,7 +16,7 @@ use cj_rowstore::{Scan, View};
 use std::alloc::Global;
 use std::marker::Model;
 
-/// Whether a row meets the condition, if there is one.
+/// Whether a row meets the condition; without a condition each row does.
 pub fn satisfies(cond: &Option<Predicate>, row: &[Value]) -> bool
     ensures { result ≡ evaluation.satisfies cond.now row.now }
 {
@@ -26,36 +26,36 @@ pub fn satisfies(cond: &Option<Predicate>, row: &[Value]) -> bool
     }
 }
 
-/// Up to which key the rows that come are all worth a look.
+/// The key up to which each row is tested without asking the condition for another range.
 #[derive(Clone, Copy)]
 enum End<'v> {
-    /// The condition is to be asked at the next row.
+    /// The condition is asked for a range at the next row.
     Unknown,
     At(&'v Value),
-    /// To the last row.
+    /// Each row is tested, to the last one.
     Open,
 }
 
-/// A walk over a table's rows that leaves out where none meets the condition.
+/// A walk over a table's rows that skips rows which can't meet the condition.
 #[derive(Drop)]
 struct Search<'v, 'a> {
     view: &'v View<'a>,
     cond: &'v Option<Predicate>,
-    /// The rows that are left, at the end of the table's.
+    /// The rows that the walk has not passed yet, which are the last ones of the table.
     scan: Scan<'a>,
     end: End<'v>,
 }
 
-/// How rows are found: by the key that the condition says, or by a walk.
+/// How rows are found: by the key that the condition fixes, or by a walk.
 #[derive(Drop)]
 enum Way<'v, 'a> {
     Key(Option<&'a [Value]>),
     Walk(Search<'v, 'a>),
 }
 
-/// The rows of a table that meet a condition, one after another in rising key, which contracts see
-/// as those that are left. Where the condition says what the key is, one look-up finds them, else a
-/// walk that leaves out the keys which the condition excludes.
+/// The rows of a table that meet a condition, in rising key. Contracts see the rows that are left. A
+/// condition that fixes the key costs one look-up; any other costs a walk that skips the keys which it
+/// excludes.
 #[derive(Drop)]
 pub struct Matching<'v, 'a> {
     way: Way<'v, 'a>,
@@ -95,7 +95,7 @@ fn end_of<'v>(reach: &Reach<'v>) -> End<'v> {
 }
 
 impl<'v, 'a> Search<'v, 'a> {
-    /// Goes on at this key, where it is above the row's.
+    /// Continues the walk at the key `start`, if that is above the row's key.
     fn jump(&mut self, start: &Value, key: &Value, row: &[Value])
         requires at { searches.IsAtRow self.old row.now }
         requires key { key.now ≡ cell row.now self.old.view.now.schema.key }
@@ -108,7 +108,7 @@ impl<'v, 'a> Search<'v, 'a> {
         self.scan = self.view.scan_from(start);
     }
 
-    /// Goes on at this key, if there is one and it is above the row's.
+    /// Continues the walk at the key `start`, if there is one and it is above the row's key.
     fn begin(&mut self, start: Option<&Value>, key: &Value, row: &[Value])
         requires at { searches.IsAtRow self.old row.now }
         requires key { key.now ≡ cell row.now self.old.view.now.schema.key }
@@ -121,7 +121,7 @@ impl<'v, 'a> Search<'v, 'a> {
         }
     }
 
-    /// Goes on at the next range that may have rows that meet the condition; false where there is
+    /// Continues the walk at the next range that may have rows which meet the condition; false if there is
     /// none.
     fn seek(&mut self, predicate: &'v Predicate, key: &Value, row: &[Value]) -> bool
         requires at { searches.IsAtRow self.old row.now }
@@ -141,8 +141,8 @@ impl<'v, 'a> Search<'v, 'a> {
         }
     }
 
-    /// Whether a row may come that meets the condition, from this row on. Ranges that have none are
-    /// left out behind it.
+    /// Whether this row or a later one may meet the condition. Ranges after this row that have no such row
+    /// are skipped.
     fn goes_on(&mut self, row: &[Value]) -> bool
         requires at { searches.IsAtRow self.old row.now }
         ensures more { result ≡ true → searches.GoesOn self.old row.now self.new }
@@ -177,7 +177,7 @@ impl<'v, 'a> Search<'v, 'a> {
     }
 }
 
-/// The key that each row that meets the condition has, where the condition says it.
+/// The key of each row that meets the condition, if the condition fixes it.
 fn key_said(cond: &Option<Predicate>, place: usize) -> Option<&Value>
     ensures { IfSome result (λ key. IsKeyOf place cond.now key.now) }
 {
@@ -187,12 +187,13 @@ fn key_said(cond: &Option<Predicate>, place: usize) -> Option<&Value>
     }
 }
 
-/// Whether the condition says the value at this place: where the key stands there, one look-up finds the rows.
+/// Whether the condition fixes the value at index `place`. If that is the key's index, one look-up finds
+/// the rows.
 pub fn says_key(cond: &Option<Predicate>, place: usize) -> bool {
     key_said(cond, place).is_some()
 }
 
-/// The row with this key, if it meets the condition.
+/// The table's row with this key, if it meets the condition.
 fn row_found<'a>(view: &View<'a>, cond: &Option<Predicate>, key: &Value) -> Option<&'a [Value]>
     ensures { option_to_list (option_copied result) ≡ filter (evaluation.satisfies cond.now) (option_to_list (row_with_key view.now.schema.key view.now.rows key.now)) }
 {
@@ -219,7 +220,7 @@ fn way_to<'v, 'a>(view: &'v View<'a>, cond: &'v Option<Predicate>) -> Way<'v, 'a
 }
 
 impl<'v, 'a> Matching<'v, 'a> {
-    /// The rows of the table that meet the condition.
+    /// The rows of a table that meet the condition; all rows without a condition.
     pub fn of(view: &'v View<'a>, cond: &'v Option<Predicate>) -> Matching<'v, 'a>
         ensures { result ≡ filter (evaluation.satisfies cond.now) view.now.rows }
     {
@@ -244,7 +245,8 @@ impl<'v, 'a> Iterator for Matching<'v, 'a> {
     }
 }
 
-/// The rows of the table that meet the condition, in rising key.
+/// Gives the rows of a table that meet the condition, in rising key; all rows without a condition. Fails
+/// only with `NoMemory`.
 pub fn matching_rows<'a>(
     alloc: Global,
     view: &View<'a>,

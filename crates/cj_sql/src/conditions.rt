@@ -1,6 +1,6 @@
-//! Conditions. A condition has at most `TEST_LIMIT` comparisons, and none of its places lies in more
-//! than `DEPTH_LIMIT` NOTs and parentheses, so neither reading nor dropping one goes deep. What reads
-//! a part of one hands it on in its box, so that a level of the recursion takes little of the stack.
+//! Conditions. A condition has at most `TEST_LIMIT` comparisons, each within at most `DEPTH_LIMIT` NOTs and
+//! parentheses. So neither reading nor dropping a condition recurses deeply. Each function hands its part
+//! on in a box, so that each level of the recursion needs little stack.
 
 ghost use Rattle.std.specs.Prelude.{◌≡◌, IfOk};
 ghost use Rattle.cj_model.specs.Proving.ConditionNodes.{condition_of_node};
@@ -38,7 +38,7 @@ impl Connective {
         }
     }
 
-    /// The condition that it makes of two.
+    /// Joins two conditions by this connective. Fails only if an allocation does.
     fn connect(
         self,
         alloc: Global,
@@ -80,7 +80,8 @@ fn comparison(tokens: &mut Tokens) -> Result<Cmp, SqlError>
     }
 }
 
-/// Two terms with a comparison between them, which is one of those that may still come.
+/// Reads two terms with a comparison between them, and counts it in `tests`, which says how many may still
+/// come.
 #[tactic(auto, unfolding(crate::specs::Proving::ConditionReader::compared))]
 fn test(alloc: Global, tokens: &mut Tokens, tests: &mut usize) -> Result<Box<CondNode>, SqlError>
     ensures { ReadsNode spec.compared (input_at tokens.old tests.old) result (input_at tokens.new tests.new) }
@@ -95,7 +96,7 @@ fn test(alloc: Global, tokens: &mut Tokens, tests: &mut usize) -> Result<Box<Con
     Ok(Box::new(alloc, CondNode::Test(cmp, left, right))?)
 }
 
-/// A comparison, or a condition behind NOT or in parentheses, within `depth` of those more.
+/// Reads a comparison, or a condition after NOT or in parentheses, at most `depth` of them deep.
 #[cycle(cond)]
 #[tactic(auto, unfolding(crate::specs::Proving::ConditionReader::prim))]
 fn prim(
@@ -119,7 +120,7 @@ fn prim(
     test(alloc, tokens, tests)
 }
 
-/// What stands on each side of a connective: AND binds closer than OR.
+/// Reads one side of a connective. AND binds tighter than OR.
 #[cycle(cond)]
 fn side(
     alloc: Global,
@@ -136,8 +137,7 @@ fn side(
     }
 }
 
-/// Conditions joined by a connective. Each has a comparison, so there are no more of them than may
-/// come.
+/// Reads conditions joined by one connective. Each has a comparison, so `tests` limits their number.
 #[cycle(cond)]
 #[tactic(auto, unfolding(crate::specs::Proving::ConditionReader::connected))]
 fn connected(
@@ -164,7 +164,7 @@ fn connected(
     Ok(left)
 }
 
-/// The rest of a condition in parentheses.
+/// Reads the rest of a condition in parentheses, after the opening one.
 #[cycle(cond)]
 #[tactic(auto, unfolding(crate::specs::Proving::ConditionReader::parens))]
 fn parens(
@@ -189,7 +189,7 @@ fn condition(alloc: Global, tokens: &mut Tokens) -> Result<Cond, SqlError>
     Ok(Cond::of(Box::into_inner(root)))
 }
 
-/// The condition of WHERE, if there is one.
+/// Reads the WHERE clause, if one is next.
 #[tactic(auto, unfolding(crate::specs::Proving::ConditionReader::filter))]
 pub fn filter(alloc: Global, tokens: &mut Tokens) -> Result<Option<Cond>, SqlError>
     ensures { ReadsAs spec.filter tokens.old result tokens.new }

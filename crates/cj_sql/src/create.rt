@@ -20,7 +20,7 @@ fn kind(tokens: &mut Tokens) -> Result<Kind, SqlError>
     Ok(Kind::Text)
 }
 
-/// Whether PRIMARY KEY stands here.
+/// Reads PRIMARY KEY, if it is next, and says whether it was.
 #[tactic(auto, unfolding(crate::specs::Proving::StatementReader::primary))]
 fn primary(tokens: &mut Tokens) -> Result<bool, SqlError>
     ensures { ReadsAs spec.primary tokens.old result tokens.new }
@@ -46,7 +46,7 @@ impl Element for ColDef {
     }
 }
 
-/// What follows CREATE.
+/// Reads the rest of a CREATE TABLE, after CREATE.
 #[tactic(auto, unfolding(crate::specs::Proving::StatementReader::create))]
 pub fn create(alloc: Global, tokens: &mut Tokens) -> Result<Request, SqlError>
     ensures { ReadsAs spec.create tokens.old result tokens.new }
@@ -59,7 +59,7 @@ pub fn create(alloc: Global, tokens: &mut Tokens) -> Result<Request, SqlError>
     Ok(Request::Create(Create { table, columns }))
 }
 
-/// What follows DROP.
+/// Reads the rest of a DROP TABLE, after DROP.
 #[tactic(auto, unfolding(crate::specs::Proving::StatementReader::drop_table))]
 pub fn drop_table(tokens: &mut Tokens) -> Result<Request, SqlError>
     ensures { ReadsAs spec.drop_table tokens.old result tokens.new }

@@ -25,7 +25,7 @@ impl Element for Tuple {
     }
 }
 
-/// The list of columns, if there is one.
+/// Reads the list of columns in parentheses, if one is next.
 #[tactic(auto, unfolding(crate::specs::Proving::StatementReader::columns))]
 fn columns(alloc: Global, tokens: &mut Tokens) -> Result<Option<Names>, SqlError>
     ensures { ReadsAs spec.columns tokens.old result tokens.new }
@@ -38,7 +38,7 @@ fn columns(alloc: Global, tokens: &mut Tokens) -> Result<Option<Names>, SqlError
     Ok(Some(names))
 }
 
-/// What follows INSERT.
+/// Reads the rest of an INSERT, after that word.
 #[tactic(auto, unfolding(crate::specs::Proving::StatementReader::insert))]
 pub fn insert(alloc: Global, tokens: &mut Tokens) -> Result<Request, SqlError>
     ensures { ReadsAs spec.insert tokens.old result tokens.new }

@@ -1,5 +1,12 @@
-//! Reads the text of a request. Each function follows a reader of `specs/` step by step, and that
-//! reader is shown to read exactly what the grammar spells (`proofs/`).
+//! The parser of SQL: the text of a request becomes the one request that the grammar reads it as.
+//!
+//! `read` answers the request that the text reads as (`cj_model`, `Sql`), and a text reads as at most one.
+//! `Syntax` means that the text reads as none; an allocation may fail too. Nesting is limited, so the recursion
+//! stays shallow.
+//!
+//! Each function follows a reading function of `specs/Proving`, which is proved to read exactly the grammar. A
+//! new statement concerns `specs/Proving/StatementReader`, `src/request.rt` and a file of its own. Read
+//! `specs/Read` first, then `proofs/Texts`, `proofs/Statements` and `proofs/OneReading`.
 #![tactic(auto)]
 
 mod conditions;

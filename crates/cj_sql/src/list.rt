@@ -8,13 +8,13 @@ use cj_lex::SqlError;
 use cj_model::{ListOf, Name, Symbol};
 use std::alloc::Global;
 
-/// What stands between the commas of a list.
+/// An element of a list with commas.
 pub trait Element: Drop {
     ghost use Rattle.std.specs.Prelude.{List};
     ghost use Rattle.cj_model.specs.declared.token.Token.{Token};
     ghost use Rattle.cj_sql.specs.Proving.Reader.{ReadResult};
 
-    /// How one is read.
+    /// The reading function of one element.
     ghost reader: { List Token → ReadResult Self (List Token) };
 
     fn read(alloc: Global, tokens: &mut Tokens) -> Result<Self, SqlError>
@@ -31,7 +31,7 @@ impl Element for Name {
     }
 }
 
-/// One item or more with commas between them, at most `limit`.
+/// Reads one element or more with commas between them. Fails with `Syntax` for more than `limit`.
 #[tactic(auto, unfolding(crate::specs::Proving::Reader::items))]
 pub fn items<T: Element>(
     alloc: Global,

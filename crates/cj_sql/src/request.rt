@@ -45,7 +45,7 @@ fn statement(alloc: Global, tokens: &mut Tokens) -> Result<Request, SqlError>
     select(alloc, tokens)
 }
 
-/// A statement, maybe with a semicolon, and nothing after it.
+/// Reads a statement and a semicolon, if there is one. Fails with `Syntax` if anything follows.
 #[tactic(auto, unfolding(crate::specs::Proving::StatementReader::whole))]
 fn whole(alloc: Global, tokens: &mut Tokens) -> Result<Request, SqlError>
     ensures { ReadsAs spec.whole tokens.old result tokens.new }
@@ -59,7 +59,8 @@ fn whole(alloc: Global, tokens: &mut Tokens) -> Result<Request, SqlError>
     }
 }
 
-/// The request that the text reads as. `Syntax` exactly where it reads as none.
+/// Reads the text of a request. Fails with `Syntax` if the text reads as no request of the grammar, or
+/// exceeds one of its limits. Fails with `NoMemory` if an allocation fails.
 pub fn read(alloc: Global, text: &[u8]) -> Result<Request, SqlError>
     ensures { IsRead text.now result }
 {

@@ -19,7 +19,7 @@ use cj_model::{
 };
 use std::alloc::Global;
 
-/// What follows COUNT.
+/// Reads the rest of a COUNT item, after that word.
 #[tactic(auto, unfolding(crate::specs::Proving::SelectReader::count_item))]
 fn count(tokens: &mut Tokens) -> Result<Item, SqlError>
     ensures { ReadsAs spec.count_item tokens.old result tokens.new }
@@ -30,7 +30,7 @@ fn count(tokens: &mut Tokens) -> Result<Item, SqlError>
     Ok(Item::Count)
 }
 
-/// What follows SUM.
+/// Reads the rest of a SUM item, after that word.
 #[tactic(auto, unfolding(crate::specs::Proving::SelectReader::sum))]
 fn sum(tokens: &mut Tokens) -> Result<Item, SqlError>
     ensures { ReadsAs spec.sum tokens.old result tokens.new }
@@ -70,7 +70,7 @@ fn listed(alloc: Global, tokens: &mut Tokens) -> Result<Items, SqlError>
     Ok(Items::Listed(list))
 }
 
-/// The column of GROUP BY, if there is one.
+/// Reads the GROUP BY clause, if one is next.
 #[tactic(auto, unfolding(crate::specs::Proving::SelectReader::group))]
 fn group(tokens: &mut Tokens) -> Result<Option<ColRef>, SqlError>
     ensures { ReadsAs spec.group tokens.old result tokens.new }
@@ -83,7 +83,7 @@ fn group(tokens: &mut Tokens) -> Result<Option<ColRef>, SqlError>
     Ok(Some(column))
 }
 
-/// Whether the order of a key descends.
+/// Reads ASC or DESC, if one is next, and says whether the order descends.
 #[tactic(auto, unfolding(crate::specs::Proving::SelectReader::direction))]
 fn direction(tokens: &mut Tokens) -> Result<bool, SqlError>
     ensures { ReadsAs spec.direction tokens.old result tokens.new }
@@ -108,7 +108,7 @@ impl Element for Key {
     }
 }
 
-/// The keys of ORDER BY, if there are any.
+/// Reads the ORDER BY clause, if one is next; no keys without one.
 #[tactic(auto, unfolding(crate::specs::Proving::SelectReader::order))]
 fn order(alloc: Global, tokens: &mut Tokens) -> Result<Keys, SqlError>
     ensures { ReadsAs spec.order tokens.old result tokens.new }
@@ -120,7 +120,7 @@ fn order(alloc: Global, tokens: &mut Tokens) -> Result<Keys, SqlError>
     items::<Key>(alloc, tokens, KEY_LIMIT)
 }
 
-/// The number of LIMIT, if there is one.
+/// Reads the LIMIT clause, if one is next.
 #[tactic(auto, unfolding(crate::specs::Proving::SelectReader::limit))]
 fn limit(tokens: &mut Tokens) -> Result<Option<u64>, SqlError>
     ensures { ReadsAs spec.limit tokens.old result tokens.new }
@@ -176,14 +176,14 @@ fn are_columns(items: &Items) -> bool
     }
 }
 
-/// Whether the tables differ, and COUNT, SUM and GROUP BY stand only with one.
+/// Whether the tables differ, and COUNT, SUM and GROUP BY appear only with one table.
 fn is_allowed(items: &Items, tables: &[Name], group: &Option<ColRef>) -> bool
     ensures { result ≡ spec.is_allowed_select items.now tables.now group.now }
 {
     is_distinct(tables) && (tables.len() == 1 || (are_columns(items) && group.is_none()))
 }
 
-/// What follows SELECT.
+/// Reads the rest of a SELECT, after that word.
 #[tactic(auto, unfolding(crate::specs::Proving::SelectReader::select))]
 pub fn select(alloc: Global, tokens: &mut Tokens) -> Result<Request, SqlError>
     ensures { ReadsAs spec.select tokens.old result tokens.new }

@@ -20,7 +20,7 @@ fn positive(tokens: &mut Tokens) -> Result<Term, SqlError>
     }
 }
 
-/// A number after a minus.
+/// Reads a number after a minus.
 #[tactic(auto, unfolding(crate::specs::Proving::TermReader::negative))]
 fn negative(tokens: &mut Tokens) -> Result<Term, SqlError>
     ensures { ReadsAs spec.negative tokens.old result tokens.new }
@@ -43,7 +43,7 @@ fn string(alloc: Global, tokens: &mut Tokens) -> Result<Term, SqlError>
     Ok(Term::Lit(Value::of_text(alloc, text)?))
 }
 
-/// What follows NOW.
+/// Reads the rest of a NOW call, after that word.
 #[tactic(auto, unfolding(crate::specs::Proving::TermReader::now))]
 fn now(tokens: &mut Tokens) -> Result<Term, SqlError>
     ensures { ReadsAs spec.now tokens.old result tokens.new }
@@ -53,7 +53,7 @@ fn now(tokens: &mut Tokens) -> Result<Term, SqlError>
     Ok(Term::Now)
 }
 
-/// What follows RAND.
+/// Reads the rest of a RAND call, after that word.
 #[tactic(auto, unfolding(crate::specs::Proving::TermReader::rand))]
 fn rand(tokens: &mut Tokens) -> Result<Term, SqlError>
     ensures { ReadsAs spec.rand tokens.old result tokens.new }
@@ -87,7 +87,7 @@ fn constant(alloc: Global, tokens: &mut Tokens) -> Result<Term, SqlError>
     string(alloc, tokens)
 }
 
-/// A list of terms is a tuple's, which has constants alone.
+/// A list of terms is a tuple, whose terms are constants.
 impl Element for Term {
     ghost use Rattle.cj_sql.specs.Proving.TermReader.{const_term};
 
@@ -98,7 +98,7 @@ impl Element for Term {
     }
 }
 
-/// The rest of a column, after its first name.
+/// Reads the rest of a column, after its first name.
 #[tactic(auto, unfolding(crate::specs::Proving::TermReader::qualified))]
 fn qualified(tokens: &mut Tokens, first: Name) -> Result<ColRef, SqlError>
     ensures { ReadsAs (spec.qualified first) tokens.old result tokens.new }
@@ -116,7 +116,7 @@ fn qualified(tokens: &mut Tokens, first: Name) -> Result<ColRef, SqlError>
     })
 }
 
-/// A column, qualified by its table or not.
+/// Reads a column, with or without its table's name.
 #[tactic(auto, unfolding(crate::specs::Proving::TermReader::column))]
 pub fn column(tokens: &mut Tokens) -> Result<ColRef, SqlError>
     ensures { ReadsAs spec.column tokens.old result tokens.new }
@@ -125,7 +125,7 @@ pub fn column(tokens: &mut Tokens) -> Result<ColRef, SqlError>
     qualified(tokens, first)
 }
 
-/// A constant or a column.
+/// Reads a constant or a column.
 #[tactic(auto, unfolding(crate::specs::Proving::TermReader::term))]
 pub fn term(alloc: Global, tokens: &mut Tokens) -> Result<Term, SqlError>
     ensures { ReadsAs spec.term tokens.old result tokens.new }
@@ -138,7 +138,7 @@ pub fn term(alloc: Global, tokens: &mut Tokens) -> Result<Term, SqlError>
     }
 }
 
-/// The rest of an expression, after its first term.
+/// Reads the rest of an expression, after its first term.
 #[tactic(auto, unfolding(crate::specs::Proving::TermReader::combined))]
 fn combined(alloc: Global, tokens: &mut Tokens, left: Term) -> Result<Expr, SqlError>
     ensures { ReadsAs (spec.combined left) tokens.old result tokens.new }
@@ -154,7 +154,7 @@ fn combined(alloc: Global, tokens: &mut Tokens, left: Term) -> Result<Expr, SqlE
     Ok(Expr::One(left))
 }
 
-/// A term, or two with a plus or a minus between them.
+/// Reads a term, or two with a plus or a minus between them.
 #[tactic(auto, unfolding(crate::specs::Proving::TermReader::expr))]
 pub fn expr(alloc: Global, tokens: &mut Tokens) -> Result<Expr, SqlError>
     ensures { ReadsAs spec.expr tokens.old result tokens.new }

@@ -1,4 +1,4 @@
-//! What is left of a text's tokens.
+//! The tokens of a text that are not read yet.
 
 ghost use Rattle.std.specs.Prelude.{◌≡◌, drop, if◌then◌else◌};
 ghost use Rattle.cj_sql.specs.Proving.Cursor.{Shows, TakesToken, ReadsAs};
@@ -9,7 +9,7 @@ use cj_model::{Keyword, Name, Symbol, Text, Token};
 use std::collections::VecDeque;
 use std::marker::Model;
 
-/// A cursor over tokens, which contracts see as the list of those that are left.
+/// A cursor over tokens. Contracts see the list of the tokens that are not read yet.
 #[derive(Drop)]
 pub struct Tokens {
     rest: VecDeque<Token>,
@@ -39,28 +39,28 @@ fn same_symbol(a: Symbol, b: Symbol) -> bool
 }
 
 impl Tokens {
-    /// The cursor before all of these.
+    /// A cursor before the first of these tokens.
     pub fn new(rest: VecDeque<Token>) -> Tokens
         ensures { result ≡ rest.items }
     {
         Tokens { rest }
     }
 
-    /// The token at the front.
+    /// The next token; none at the end.
     fn front(&self) -> Option<&Token>
         ensures { Shows result self.now }
     {
         self.rest.front()
     }
 
-    /// Takes the token at the front.
+    /// Takes the next token; none at the end.
     fn take(&mut self) -> Option<Token>
         ensures { TakesToken result self.old self.new }
     {
         self.rest.pop_front()
     }
 
-    /// Whether the word stands at the front.
+    /// Whether the next token is this reserved word.
     pub fn sees_word(&self, word: Keyword) -> bool
         ensures { result ≡ spec.sees_word word self.now }
     {
@@ -70,7 +70,7 @@ impl Tokens {
         }
     }
 
-    /// Whether the symbol stands at the front.
+    /// Whether the next token is this symbol.
     pub fn sees_symbol(&self, symbol: Symbol) -> bool
         ensures { result ≡ spec.sees_symbol symbol self.now }
     {
@@ -80,14 +80,14 @@ impl Tokens {
         }
     }
 
-    /// Whether a number stands at the front.
+    /// Whether the next token is a number.
     pub fn sees_number(&self) -> bool
         ensures { result ≡ spec.sees_number self.now }
     {
         matches!(self.front(), Some(Token::Number(_)))
     }
 
-    /// Whether a name stands at the front.
+    /// Whether the next token is a name.
     pub fn sees_name(&self) -> bool
         ensures { result ≡ spec.sees_name self.now }
     {
@@ -101,7 +101,7 @@ impl Tokens {
         self.front().is_none()
     }
 
-    /// Takes the word where it stands at the front.
+    /// Takes the next token if it is this reserved word, and says whether it was.
     pub fn eat_word(&mut self, word: Keyword) -> bool
         ensures found { result ≡ spec.sees_word word self.old }
         ensures rest { self.new ≡ (if result then drop 1 self.old else self.old) }
@@ -113,7 +113,7 @@ impl Tokens {
         found
     }
 
-    /// Takes the symbol where it stands at the front.
+    /// Takes the next token if it is this symbol, and says whether it was.
     pub fn eat_symbol(&mut self, symbol: Symbol) -> bool
         ensures found { result ≡ spec.sees_symbol symbol self.old }
         ensures rest { self.new ≡ (if result then drop 1 self.old else self.old) }
@@ -125,7 +125,7 @@ impl Tokens {
         found
     }
 
-    /// Takes a name; `Syntax` where none stands at the front.
+    /// Takes the next token, a name. Fails with `Syntax` if it is none.
     #[tactic(auto, unfolding(crate::specs::Proving::Reader::expect_name))]
     pub fn name(&mut self) -> Result<Name, SqlError>
         ensures { ReadsAs spec.expect_name self.old result self.new }
@@ -137,7 +137,7 @@ impl Tokens {
         }
     }
 
-    /// Takes a number; `Syntax` where none stands at the front.
+    /// Takes the next token, a number. Fails with `Syntax` if it is none.
     #[tactic(auto, unfolding(crate::specs::Proving::Reader::expect_number))]
     pub fn number(&mut self) -> Result<u64, SqlError>
         ensures { ReadsAs spec.expect_number self.old result self.new }
@@ -149,7 +149,7 @@ impl Tokens {
         }
     }
 
-    /// Takes a string's value; `Syntax` where none stands at the front.
+    /// Takes the next token, a string, and gives its value. Fails with `Syntax` if it is none.
     #[tactic(auto, unfolding(crate::specs::Proving::Reader::expect_text))]
     pub fn text(&mut self) -> Result<Text, SqlError>
         ensures { ReadsAs spec.expect_text self.old result self.new }
@@ -161,7 +161,7 @@ impl Tokens {
         }
     }
 
-    /// Takes a symbol; `Syntax` where none stands at the front.
+    /// Takes the next token, a symbol. Fails with `Syntax` if it is none.
     #[tactic(auto, unfolding(crate::specs::Proving::Reader::symbol_at))]
     pub fn symbol(&mut self) -> Result<Symbol, SqlError>
         ensures { ReadsAs spec.symbol_at self.old result self.new }
@@ -173,7 +173,7 @@ impl Tokens {
         }
     }
 
-    /// Takes the word; `Syntax` where it does not stand at the front.
+    /// Takes the next token, this reserved word. Fails with `Syntax` if it is another.
     #[tactic(auto, unfolding(crate::specs::Proving::Reader::expect_word))]
     pub fn expect_word(&mut self, word: Keyword) -> Result<(), SqlError>
         ensures { ReadsAs (spec.expect_word word) self.old result self.new }
@@ -185,7 +185,7 @@ impl Tokens {
         }
     }
 
-    /// Takes the symbol; `Syntax` where it does not stand at the front.
+    /// Takes the next token, this symbol. Fails with `Syntax` if it is another.
     #[tactic(auto, unfolding(crate::specs::Proving::Reader::expect_symbol))]
     pub fn expect_symbol(&mut self, symbol: Symbol) -> Result<(), SqlError>
         ensures { ReadsAs (spec.expect_symbol symbol) self.old result self.new }

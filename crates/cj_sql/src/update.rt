@@ -25,7 +25,7 @@ impl Element for Set {
     }
 }
 
-/// What follows UPDATE.
+/// Reads the rest of an UPDATE, after that word.
 #[tactic(auto, unfolding(crate::specs::Proving::StatementReader::update))]
 pub fn update(alloc: Global, tokens: &mut Tokens) -> Result<Request, SqlError>
     ensures { ReadsAs spec.update tokens.old result tokens.new }
@@ -37,7 +37,7 @@ pub fn update(alloc: Global, tokens: &mut Tokens) -> Result<Request, SqlError>
     Ok(Request::Write(Write::Update { table, sets, cond }))
 }
 
-/// What follows DELETE.
+/// Reads the rest of a DELETE, after that word.
 #[tactic(auto, unfolding(crate::specs::Proving::StatementReader::delete))]
 pub fn delete(alloc: Global, tokens: &mut Tokens) -> Result<Request, SqlError>
     ensures { ReadsAs spec.delete tokens.old result tokens.new }

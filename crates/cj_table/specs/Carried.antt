@@ -1,4 +1,4 @@
--- What a call that changes a database gives.
+-- What calls that change a database give and leave.
 use Rattle.std.specs.Prelude.{◌≡◌, ℕ, Bool, List, not, is_some, ◌&&◌, ◌==◌}
 use Rattle.std.specs.declared.option.Option.{Option}
 use Rattle.std.specs.declared.option.Option.TheVariants.{None, Some}
@@ -17,26 +17,29 @@ use Rattle.cj_model.specs.Database.Steps.{Stepped, seen, other_writer, with_tabl
 
 -- ---- calls
 
--- the step's outcome and database; after want of memory the database is as it was
+-- the call gives the step's outcome and leaves its database; if an allocation fails, the database is unchanged
 abbrev pub Carries : List Slot → Stepped → Result Outcome NoMemory → List Slot → Type 0
 Carries old stepped (Ok o) new = (o ≡ stepped.outcome) × (new ≡ stepped.db)
 Carries old stepped (Err e) new = new ≡ old
 
--- what a write makes of the table that its transaction sees, unless another transaction writes the table
+-- the change of a write to a table as its transaction sees it; refused with LOCKED if another transaction writes
+-- the table
 abbrev pub change_unless_locked : Slot → ℕ → Write → Option ℕ → Changed
 change_unless_locked s tx w None = change (seen s tx) w
 change_unless_locked s tx w (Some other) = Err (record { code = LOCKED; a = other; b = 0 })
 
+-- the change of a write to the table of a slot, refused if another transaction has a draft of it
 abbrev pub change_of : Slot → ℕ → Write → Changed
 change_of s tx w = change_unless_locked s tx w (other_writer tx s.draft)
 
--- a slot after a change of the table that a transaction sees, and the outcome; a refusal or want of memory leaves it
+-- the call makes this change of the slot and gives its outcome; a refusal or an allocation failure leaves the slot
+-- unchanged
 abbrev pub CarriesSlot : Slot → ℕ → Changed → Result Outcome NoMemory → Slot → Type 0
 CarriesSlot old tx (Ok (rows, count)) (Ok o) new = (o ≡ Done count) × (new ≡ with_table old tx (record { schema = old.base.schema; rows = rows }))
 CarriesSlot old tx (Err refusal) (Ok o) new = (o ≡ outcome.Refused refusal) × (new ≡ old)
 CarriesSlot old tx (Ok (rows, count)) (Err e) new = new ≡ old
 CarriesSlot old tx (Err refusal) (Err e) new = new ≡ old
 
--- rows may be changed in their places: nobody has a draft of the table, and the write makes none
+-- rows may be changed in place: no transaction has a draft of the table, and the write makes none
 abbrev pub is_undrafted : Slot → ℕ → Bool
 is_undrafted s tx = tx == 0 && not (is_some s.draft)

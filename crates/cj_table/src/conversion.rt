@@ -1,4 +1,4 @@
-//! Databases as the vocabulary has them, made trees, and trees made such databases.
+//! Conversion between databases of the vocabulary and databases of trees.
 
 ghost use Rattle.std.specs.Prelude.{◌≡◌, All, None, Some, IfOk, OnOk};
 ghost use Rattle.cj_model.specs.Database.Tables.{IsSlot, IsTable, Rises, by_key};
@@ -9,7 +9,7 @@ use cj_model::{Db, Draft, Duplicate, NoMemory, Row, Rows, Slot, Table, copies};
 use cj_rowstore::{RowMap, Scan, StoredTable, View, key_of};
 use std::alloc::Global;
 
-/// The changes that put the rows at their keys.
+/// The changes that put each row at its key.
 fn puts(alloc: Global, place: usize, rows: Rows) -> Result<RowMap, NoMemory>
     ensures { IfOk result (λ changes. changes ≡ entries.puts place rows) }
 {
@@ -21,7 +21,8 @@ fn puts(alloc: Global, place: usize, rows: Rows) -> Result<RowMap, NoMemory>
     Ok(changes)
 }
 
-/// The changes that turn rows into new ones: a row that stays as it is needs none.
+/// The changes that turn the old rows into the new ones, both in rising key. A row that stays as it is
+/// needs no change.
 fn changes_to(alloc: Global, place: usize, old: Scan, new: Rows) -> Result<RowMap, NoMemory>
     requires old { Rises (by_key place) old }
     requires new { Rises (by_key place) new }
@@ -36,7 +37,7 @@ fn changes_to(alloc: Global, place: usize, old: Scan, new: Rows) -> Result<RowMa
     Ok(changes)
 }
 
-/// The table as it is kept, with no draft.
+/// The stored form of a table, without a draft.
 fn stored_table(alloc: Global, table: Table) -> Result<StoredTable, NoMemory>
     requires { IsTable table }
     ensures { IfOk result (λ stored. stored ≡ record { base = table; draft = None }) }
@@ -47,7 +48,7 @@ fn stored_table(alloc: Global, table: Table) -> Result<StoredTable, NoMemory>
     Ok(StoredTable::of(schema, changes, count))
 }
 
-/// Makes this the draft of a table that has none.
+/// Makes this the draft of a stored table that has none.
 fn put_draft(alloc: Global, stored: &mut StoredTable, draft: Draft) -> Result<(), NoMemory>
     requires none { stored.old.draft ≡ None }
     requires slot { IsSlot (record { base = stored.old.base; draft = Some draft }) }
@@ -61,7 +62,7 @@ fn put_draft(alloc: Global, stored: &mut StoredTable, draft: Draft) -> Result<()
     stored.change(alloc, tx, changes, count)
 }
 
-/// The slot as it is kept.
+/// The stored form of a slot.
 fn stored_slot(alloc: Global, slot: Slot) -> Result<StoredTable, NoMemory>
     requires { IsSlot slot }
     ensures { IfOk result (λ stored. stored ≡ slot) }
@@ -77,7 +78,7 @@ fn stored_slot(alloc: Global, slot: Slot) -> Result<StoredTable, NoMemory>
     }
 }
 
-/// The slots of a database as they are kept.
+/// The stored form of a database: rows are moved, and keys copied. Fails only with `NoMemory`.
 pub fn stored_slots(alloc: Global, db: Db) -> Result<Vec<StoredTable>, NoMemory>
     requires { All IsSlot db }
     ensures { IfOk result (λ slots. slots.items ≡ db) }
@@ -131,7 +132,7 @@ fn copied_slot(alloc: Global, stored: &StoredTable) -> Result<Slot, NoMemory>
     })
 }
 
-/// A copy of the slots.
+/// A copy of stored slots as a database of the vocabulary. Fails only with `NoMemory`.
 pub fn copied_slots(alloc: Global, slots: &[StoredTable]) -> Result<Db, NoMemory>
     requires { All IsSlot slots.now }
     ensures { IfOk result (λ db. db ≡ slots.now) }

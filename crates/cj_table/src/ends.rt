@@ -1,4 +1,4 @@
-//! The ends of tables and of transactions, which take no memory.
+//! The ends of tables and of transactions, none of which allocates.
 
 ghost use Rattle.std.specs.Prelude.{◌≡◌, filter, map, not};
 ghost use Rattle.std.specs.Str.{bytes_eq};
@@ -16,7 +16,8 @@ fn remove_slot(slots: &mut Vec<StoredTable>, name: &Name)
     slots.retain(|slot| !slot.schema().table.is(name));
 }
 
-/// DROP TABLE, unless a transaction has a draft of the table.
+/// Drops a table, or refuses it if the table does not exist or a transaction has a draft of it. Allocates
+/// nothing.
 pub fn drop_slot(slots: &mut Vec<StoredTable>, name: &Name) -> Outcome
     ensures outcome { result ≡ (dropped slots.old.items name.now).outcome }
     ensures slots { slots.new.items ≡ (dropped slots.old.items name.now).db }
@@ -37,7 +38,7 @@ pub fn drop_slot(slots: &mut Vec<StoredTable>, name: &Name) -> Outcome
     }
 }
 
-/// Makes the transaction's drafts the bases of their tables.
+/// Commits the drafts of transaction `tx` in all tables, without allocation.
 pub fn commit_slots(alloc: Global, slots: &mut Vec<StoredTable>, tx: u64)
     ensures { slots.new.items ≡ map (committed tx) slots.old.items }
 {
@@ -46,7 +47,7 @@ pub fn commit_slots(alloc: Global, slots: &mut Vec<StoredTable>, tx: u64)
     }
 }
 
-/// Forgets the transaction's drafts.
+/// Drops the drafts of transaction `tx` in all tables, without allocation.
 pub fn abort_slots(slots: &mut Vec<StoredTable>, tx: u64)
     ensures { slots.new.items ≡ map (aborted tx) slots.old.items }
 {

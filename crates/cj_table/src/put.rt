@@ -1,4 +1,4 @@
-//! Tables that are put as a whole.
+//! Whole tables that are put into a database.
 
 ghost use Rattle.std.specs.Prelude.{◌≡◌, IfOk};
 ghost use Rattle.cj_model.specs.Database.Tables.{column_names, is_distinct};
@@ -40,7 +40,7 @@ fn may_be_table(schema: &Schema, rows: &Rows) -> bool
         && !has_misfit(schema.columns.as_slice(), rows.as_slice())
 }
 
-/// The table with these rows; none where they make none.
+/// The stored table with these rows; none where the schema and rows make no table.
 fn slot_made(alloc: Global, schema: Schema, rows: Rows) -> Result<Option<StoredTable>, NoMemory>
     ensures { IfOk result (λ made. made ≡ put.slot_made schema rows) }
 {
@@ -54,7 +54,8 @@ fn slot_made(alloc: Global, schema: Schema, rows: Rows) -> Result<Option<StoredT
     Ok(Some(StoredTable::of(schema, changes, count)))
 }
 
-/// Puts the table with these rows in place of one of its name.
+/// Puts a table with these rows, in place of one of its name. False, with the slots unchanged, if the
+/// schema and rows make no table. `NoMemory` leaves the slots unchanged too.
 pub fn put_table(
     alloc: Global,
     slots: &mut Vec<StoredTable>,

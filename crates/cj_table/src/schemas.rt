@@ -24,7 +24,8 @@ fn count_keys(columns: &[ColDef]) -> usize
     columns.iter().filter(|column| column.key).count()
 }
 
-/// Whether the columns are distinct, and exactly one is the primary key.
+/// Whether the columns have different names, and exactly one is the primary key. Fails only with
+/// `NoMemory`.
 pub fn makes_schema(alloc: Global, columns: &[ColDef]) -> Result<bool, NoMemory>
     ensures { IfOk result (λ makes. makes ≡ steps.make_schema columns.now) }
 {
@@ -73,7 +74,7 @@ fn schema_of(alloc: Global, create: &Create) -> Result<Schema, NoMemory>
     })
 }
 
-/// The new table, with no rows.
+/// The new table of a CREATE TABLE, without rows. Fails only with `NoMemory`.
 pub fn empty_table(alloc: Global, create: &Create) -> Result<StoredTable, NoMemory>
     requires { length create.now.columns ≤ COLUMN_LIMIT }
     ensures { IfOk result (λ slot. slot ≡ steps.empty_slot create.now) }

@@ -20,7 +20,7 @@ use cj_rowstore::{StoredTable, View};
 use std::alloc::Global;
 use std::cmp::Ordering;
 
-/// The slot of a table.
+/// The slot of the table with this name; none if it does not exist.
 pub fn find<'a>(slots: &'a [StoredTable], name: &Name) -> Option<&'a StoredTable>
     ensures { option_copied result ≡ slot_of slots.now name.now }
 {
@@ -42,14 +42,15 @@ fn table_written(write: &Write) -> &Name
     }
 }
 
-/// Whether rows may be changed in their places: nobody has a draft, nor is one to be made.
+/// Whether rows may be changed in place: no transaction has a draft of the table, and this write makes
+/// none.
 fn is_undrafted(slot: &StoredTable, tx: u64) -> bool
     ensures { result ≡ is_undrafted slot.now tx }
 {
     tx == 0 && slot.writer().is_none()
 }
 
-/// How a write is to change the table that its transaction sees.
+/// The change of a write to the table as its transaction sees it, or its refusal.
 fn decided_for(
     alloc: Global,
     slot: &StoredTable,
@@ -96,7 +97,8 @@ fn write_slot(
     }
 }
 
-/// A write of transaction `tx`, 0 for none; want of memory changes nothing.
+/// Carries out a write of transaction `tx`, 0 for none, or refuses it. `NoMemory` leaves the slots
+/// unchanged.
 pub fn write_slots(
     alloc: Global,
     slots: &mut Vec<StoredTable>,
@@ -115,7 +117,8 @@ pub fn write_slots(
     }
 }
 
-/// Where the slot is put: at the place of the slot of its table, or in front of the one at a place.
+/// Where a slot is put: `Ok` with the index of the slot of the same table, or `Err` with the index that it
+/// is inserted at.
 fn place_of(slots: &[StoredTable], slot: &StoredTable) -> Result<usize, usize>
     ensures { IsPlace by_table slots.now slot.now result }
 {
@@ -130,7 +133,7 @@ fn place_of(slots: &[StoredTable], slot: &StoredTable) -> Result<usize, usize>
     Err(slots.len())
 }
 
-/// Puts a slot in place of the one of its table; want of memory changes nothing.
+/// Puts a slot, in place of the one of its table if there is one. `NoMemory` leaves the slots unchanged.
 pub fn put_slot(slots: &mut Vec<StoredTable>, slot: StoredTable) -> Result<(), NoMemory>
     ensures ok { OnOk result (slots.new.items ≡ put_by by_table slots.old.items slot) }
     ensures err { OnErr result (slots.new.items ≡ slots.old.items) }
@@ -148,7 +151,7 @@ fn has_table(slots: &[StoredTable], name: &Name) -> bool
     find(slots, name).is_some()
 }
 
-/// CREATE TABLE; want of memory changes nothing.
+/// Creates a table, or refuses it. `NoMemory` leaves the slots unchanged.
 pub fn create_slot(
     alloc: Global,
     slots: &mut Vec<StoredTable>,

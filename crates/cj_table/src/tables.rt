@@ -17,8 +17,8 @@ use cj_rowstore::{StoredTable, View};
 use std::alloc::Global;
 use std::marker::Model;
 
-/// A database, which contracts see as its slots in rising name of their table. Each table is a tree
-/// of its rows by their keys, and a draft is a tree of the keys that its transaction has changed.
+/// A database in memory. Contracts see its slots in rising name of their tables. Each table is a tree of
+/// rows by key, and a draft is a tree of the keys that its transaction has changed.
 #[derive(Drop)]
 pub struct Tables {
     slots: Vec<StoredTable>,
@@ -38,7 +38,7 @@ impl Model for Tables {
 }
 
 impl Tables {
-    /// The database of no tables, which takes no memory.
+    /// The database without tables, without allocation.
     pub fn new(alloc: Global) -> Tables
         ensures { result ≡ [] }
     {
@@ -48,14 +48,15 @@ impl Tables {
         }
     }
 
-    /// Shows what holds of every database.
+    /// The law that `Tables` is a well-formed database.
     pub fn legal(&self)
         ensures { IsDatabase self.now }
     {
         let _ = &self.slots;
     }
 
-    /// CREATE TABLE; want of memory changes nothing.
+    /// Creates a table, or refuses it. The columns must be within `COLUMN_LIMIT`. `NoMemory` leaves the
+    /// database unchanged.
     pub fn create(&mut self, create: &Create) -> Result<Outcome, NoMemory>
         requires { length create.now.columns ≤ COLUMN_LIMIT }
         ensures { Carries self.old (created self.old create.now) result self.new }
@@ -63,22 +64,24 @@ impl Tables {
         create_slot(self.alloc, &mut self.slots, create)
     }
 
-    /// Puts a table with these rows, which come in any order, in place of one of its name. False, and
-    /// nothing is changed, where they make no table; want of memory changes nothing.
+    /// Puts a table with these rows, in any order, in place of one of its name. False, with the database
+    /// unchanged, if the schema and rows make no table. `NoMemory` leaves the database unchanged too.
     pub fn put_table(&mut self, schema: Schema, rows: Rows) -> Result<bool, NoMemory>
         ensures { PutsTable self.old schema rows result self.new }
     {
         put_table(self.alloc, &mut self.slots, schema, rows)
     }
 
-    /// INSERT, UPDATE or DELETE of transaction `tx`, 0 for none; want of memory changes nothing.
+    /// Carries out an INSERT, UPDATE or DELETE of transaction `tx`, 0 for none, or refuses it. `NoMemory`
+    /// leaves the database unchanged.
     pub fn write(&mut self, tx: u64, write: &Write) -> Result<Outcome, NoMemory>
         ensures { Carries self.old (written self.old tx write.now) result self.new }
     {
         write_slots(self.alloc, &mut self.slots, tx, write)
     }
 
-    /// DROP TABLE, which takes no memory.
+    /// Drops a table, or refuses it if the table does not exist or a transaction has a draft of it.
+    /// Allocates nothing.
     pub fn drop_table(&mut self, table: &Name) -> Outcome
         ensures outcome { result ≡ (dropped self.old table.now).outcome }
         ensures database { self.new ≡ (dropped self.old table.now).db }
@@ -86,7 +89,7 @@ impl Tables {
         drop_slot(&mut self.slots, table)
     }
 
-    /// COMMIT of transaction `tx`; want of memory changes nothing.
+    /// Commits the drafts of transaction `tx`. `NoMemory` leaves the database unchanged.
     pub fn commit(&mut self, tx: u64) -> Result<(), NoMemory>
         ensures ok { OnOk result (self.new ≡ map (committed tx) self.old) }
         ensures err { OnErr result (self.new ≡ self.old) }
@@ -95,14 +98,15 @@ impl Tables {
         Ok(())
     }
 
-    /// The end of transaction `tx` without its changes, which takes no memory.
+    /// Ends transaction `tx` without its changes. Allocates nothing.
     pub fn abort(&mut self, tx: u64)
         ensures { self.new ≡ map (aborted tx) self.old }
     {
         abort_slots(&mut self.slots, tx);
     }
 
-    /// The database as trees of rows by their keys: rows are moved, and keys copied.
+    /// Builds the trees of a database of the vocabulary: rows are moved, and keys copied. Fails only with
+    /// `NoMemory`.
     pub fn from_db(alloc: Global, db: Db) -> Result<Tables, NoMemory>
         requires { IsDatabase db }
         ensures { IfOk result (λ tables. tables ≡ db) }
@@ -113,21 +117,21 @@ impl Tables {
         })
     }
 
-    /// A copy of the database.
+    /// A copy of the database, drafts included, as the vocabulary has it. Fails only with `NoMemory`.
     pub fn to_db(&self) -> Result<Db, NoMemory>
         ensures { IfOk result (λ db. db ≡ self.now) }
     {
         copied_slots(self.alloc, &self.slots)
     }
 
-    /// The transactions that have a draft, in rising number.
+    /// The transactions that have a draft, in rising number. Fails only with `NoMemory`.
     pub fn writers(&self) -> Result<Vec<u64>, NoMemory>
         ensures { IfOk result (λ list. list.items ≡ writers self.now) }
     {
         writers_in(self.alloc, &self.slots)
     }
 
-    /// The table as transaction `tx`, 0 for none, sees it; none exactly where it is not there.
+    /// The table as transaction `tx`, 0 for none, sees it; none if and only if it does not exist.
     pub fn view(&self, table: &Name, tx: u64) -> Option<View<'_>>
         ensures { result ≡ option_map (λ slot. seen slot tx) (slot_of self.now table.now) }
     {

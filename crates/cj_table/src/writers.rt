@@ -11,7 +11,7 @@ use cj_rowstore::StoredTable;
 use std::alloc::Global;
 use std::cmp::Ordering;
 
-/// In front of which place a number is put among rising ones; none where it is one of them.
+/// The index at which a number is inserted among rising ones; none if it is one of them.
 fn gap_for(numbers: &[u64], number: u64) -> Option<usize>
     ensures { IsGap nat_cmp numbers.now number result }
 {
@@ -43,7 +43,7 @@ fn put_writer(numbers: &mut Vec<u64>, slot: &StoredTable) -> Result<(), NoMemory
     }
 }
 
-/// The transactions that have a draft in these slots, in rising number.
+/// The transactions that have a draft in these slots, in rising number. Fails only with `NoMemory`.
 pub fn writers_in(alloc: Global, slots: &[StoredTable]) -> Result<Vec<u64>, NoMemory>
     ensures { IfOk result (λ numbers. numbers.items ≡ writers slots.now) }
 {

@@ -1,4 +1,5 @@
--- Reading the frame at the front of bytes, step by step. A step fails with the fault that it met, or with none where more bytes have to come.
+-- Reading the frame at the front of bytes, step by step. A step fails with the fault that it met, or with none
+-- where more bytes must come.
 use Rattle.std.specs.Prelude.{◌≡◌, ℕ, ◌-◌, zero, suc, List, [], ◌∷◌, length, Result, Ok, Err, nat_lt, ◌==◌, if◌then◌else◌}
 use Rattle.std.specs.declared.option.Option.{Option}
 use Rattle.std.specs.declared.option.Option.TheVariants.{None, Some}
@@ -13,11 +14,11 @@ use Rattle.cj_model.specs.Wire.Frames.{is_client_kind}
 use Rattle.cj_frame.specs.declared.error.Stop.{Stop}
 use Rattle.cj_frame.specs.declared.error.Stop.TheVariants as stops
 
--- what a step gives: a value, or a fault, or none where more bytes have to come
+-- what a step gives: a value, or a fault, or none where more bytes must come
 abbrev pub Decoded : Type 0 → Type 0
 Decoded A = Result A (Option FrameFault)
 
--- the fault of a stop, which is none where more bytes have to come
+-- the fault of a stop, which is none where more bytes must come
 abbrev pub short_of : Stop → Option FrameFault
 short_of stops.Part = None
 short_of (stops.Fault fault) = Some fault
@@ -34,7 +35,7 @@ abbrev pub GivesReading : {X Y : Type 0} → (X → Y) → Result X Stop → Dec
 GivesReading view (Ok x) read = read ≡ Ok (view x)
 GivesReading view (Err stop) read = FailsReading stop read
 
--- a text behind its length
+-- a text after its length
 unfoldable pub str16_at : List ℕ → Decoded (List ℕ × List ℕ)
 str16_at bytes = do
   n ← number_at (Some Payload) w16 bytes

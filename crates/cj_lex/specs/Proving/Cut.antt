@@ -1,4 +1,4 @@
--- The token at the front of a text, as a function that the code follows and the proofs compare with the grammar of tokens.
+-- The token at the front of a text, as a function that the code follows and the proofs compare with the grammar.
 use Rattle.std.specs.Prelude.{ℕ, ◌^◌, ◌≡◌, Bool, true, false, ◌&&◌, ◌==◌, if◌then◌else◌, nat_le, List, [], ◌∷◌, ◌++◌, length, map, take, drop, Option, Some, None, Result, Ok, Err, Vec}
 use Rattle.std.specs.declared.alloc.Global.{Global}
 use Rattle.std.specs.List.{prefix_len}
@@ -77,12 +77,12 @@ cut_number z = let n = count_of_class class.Digit z in
 
 -- ---- strings
 
--- what stands before the closing quote, with each quote once, and what after it
+-- what precedes the closing quote, with each quote once, and what follows it
 pub data Closed : Type 0 where
   unclosed : Closed
   closed : List ℕ → List ℕ → Closed
 
--- the same, with more at the front
+-- the closed string with more bytes at its front; unclosed where it is unclosed
 abbrev pub with_front : List ℕ → Closed → Closed
 with_front front unclosed = unclosed
 with_front front (closed x rest) = closed (front ++ x) rest
@@ -98,7 +98,7 @@ abbrev pub cut_closed : Closed → Cut
 cut_closed unclosed = bad
 cut_closed (closed x rest) = if nat_le (length x) TEXT_LIMIT && is_text x then cut (token.Text x) rest else bad
 
--- the string whose opening quote stands before this text
+-- the string whose opening quote was just before this text
 unfoldable pub cut_string : List ℕ → Cut
 cut_string z = cut_closed (close_string false z)
 
@@ -138,7 +138,7 @@ cut_symbol b z =
 
 -- ---- the first token
 
--- the token at the front, where no white space stands
+-- the token at the front of a text without leading white space
 unfoldable pub cut_at : List ℕ → Cut
 cut_at [] = finished
 cut_at (b ∷ z) =
@@ -157,18 +157,18 @@ AnswersCut c (Ok (Some p)) = c ≡ cut p.0 p.1.now
 AnswersCut c (Err Syntax) = c ≡ bad
 AnswersCut c (Err NoMemory) = Unit {0}
 
--- the same, where the text isn't at its end
+-- the token that was cut off a text that is not at its end; `Syntax` exactly where there is no token
 abbrev pub CutsOne : Cut → Result (Token × Bor (List ℕ)) SqlError → Type 0
 CutsOne c (Ok p) = c ≡ cut p.0 p.1.now
 CutsOne c (Err Syntax) = c ≡ bad
 CutsOne c (Err NoMemory) = Unit {0}
 
--- the same for a symbol
+-- the symbol that was cut off; none exactly where there is no symbol
 abbrev pub CutsSymbol : Cut → Option (Symbol × Bor (List ℕ)) → Type 0
 CutsSymbol c (Some p) = c ≡ cut (token.Symbol p.0) p.1.now
 CutsSymbol c None = c ≡ bad
 
--- what stood before the closing quote, and after it
+-- the string before the closing quote, and the text after it
 abbrev pub AnswersClosed : Closed → Option (Vec ℕ Global × Bor (List ℕ)) → Type 0
 AnswersClosed c None = c ≡ unclosed
 AnswersClosed c (Some p) = c ≡ closed p.0.items p.1.now

@@ -13,7 +13,7 @@ use Rattle.cj_codec.specs.Formats.{Format, behind, mapped, pair, such_that, noth
 abbrev pub columns : Format (List (List ℕ))
 columns = such_that (λ names. nat_lt 0 (length names)) (list number16 name)
 
--- rows of so many values
+-- rows of `count` values each
 abbrev pub rows : ℕ → Format (List (List Value))
 rows count = list number32 (repeated value count)
 

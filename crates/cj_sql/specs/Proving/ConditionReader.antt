@@ -71,12 +71,12 @@ abbrev pub keyword_of : Connective → Keyword
 keyword_of connective.And = word.And
 keyword_of connective.Or = word.Or
 
--- the condition that it makes of two
+-- the condition that the connective makes of two
 abbrev pub compound : Connective → Condition → Condition → Condition
 compound connective.And = And
 compound connective.Or = Or
 
--- over a reader of what stands on each side of it
+-- over a connective, and a reader of each of its sides
 module _ (by : Connective) (side : Conditions) where
   -- { keyword side } after a condition, at most so many
   unfoldable pub more_connected : ℕ → Condition → Conditions
@@ -98,7 +98,7 @@ module _ (prim : Conditions) where
   abbrev pub cond : Conditions
   cond = connected connective.Or conj
 
-  -- what stands on each side of a connective
+  -- the reader of each side of a connective
   abbrev pub side : Connective → Conditions
   side connective.And = prim
   side connective.Or = conj

@@ -12,12 +12,12 @@ use Rattle.cj_lex.specs.declared.error.SqlError.{SqlError}
 use Rattle.cj_lex.specs.declared.error.SqlError.TheVariants.{Syntax, NoMemory}
 use Rattle.cj_sql.specs.Proving.Reader.{ReadResult, refused, read}
 
--- lends the token at the front
+-- the cursor lends the next token, or none at the end
 abbrev pub Shows : Option (Bor Token) → List Token → Type 0
 Shows None ts = ts ≡ []
 Shows (Some t) ts = ts ≡ t.now ∷ drop 1 ts
 
--- takes the token at the front
+-- the cursor takes the next token, or none at the end
 abbrev pub TakesToken : Option Token → List Token → List Token → Type 0
 TakesToken None old new = (old ≡ []) × (new ≡ old)
 TakesToken (Some t) old new = old ≡ t ∷ new

@@ -1,4 +1,5 @@
--- Readers as functions on the tokens that are left: what one answers, how one follows another, and those of single tokens.
+-- Readers as functions on the tokens that are left: their answers, how one follows another, and those of single
+-- tokens.
 use Rattle.std.specs.Prelude.{ℕ, zero, suc, Bool, true, false, if◌then◌else◌, List, [], ◌∷◌, ◌++◌, drop}
 use denote.Enum.Bare.{sameb}
 use Rattle.cj_model.specs.contracts.token.Keyword as keyword_type
@@ -33,22 +34,22 @@ same_word = sameb keyword_type.the_type
 unfoldable pub same_symbol : Symbol → Symbol → Bool
 same_symbol = sameb symbol_type.the_type
 
--- whether the word stands at the front
+-- whether the next token is this reserved word
 abbrev pub sees_word : Keyword → List Token → Bool
 sees_word w (token.Word found ∷ rest) = same_word found w
 sees_word w _ = false
 
--- whether the symbol stands at the front
+-- whether the next token is this symbol
 abbrev pub sees_symbol : Symbol → List Token → Bool
 sees_symbol s (token.Symbol found ∷ rest) = same_symbol found s
 sees_symbol s _ = false
 
--- whether a number stands at the front
+-- whether the next token is a number
 abbrev pub sees_number : List Token → Bool
 sees_number (token.Number n ∷ rest) = true
 sees_number _ = false
 
--- whether a name stands at the front
+-- whether the next token is a name
 abbrev pub sees_name : List Token → Bool
 sees_name (token.Name n ∷ rest) = true
 sees_name _ = false

@@ -81,7 +81,7 @@ limit ts =
 
 -- ---- the statement
 
--- The tables differ, and COUNT, SUM and GROUP BY stand only with one.
+-- The tables differ, and COUNT, SUM and GROUP BY appear only with one table.
 abbrev pub is_allowed_select : Items → List (List ℕ) → Option ColRef → Bool
 is_allowed_select xs tables g = is_distinct tables && (length tables == 1 || not (is_aggregate_query xs g))
 
