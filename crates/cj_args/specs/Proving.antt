@@ -1,4 +1,5 @@
--- How the words are read, from the first on, for proofs alone. What they ask for is said in Words, and is shown to be the same.
+-- How the words are read, from the first on, for proofs alone. What they ask for is said in Words, and is shown to be
+-- the same.
 use Rattle.std.specs.Prelude.{ℕ, nat_lt, Bool, false, ◌||◌, List, [], ◌∷◌, length, take, drop, codes, if◌then◌else◌}
 use Rattle.std.specs.declared.option.Option.{Option}
 use Rattle.std.specs.declared.option.Option.TheVariants.{None, Some}
@@ -22,7 +23,7 @@ pub data Part : Type 0 where
   Seed : ℕ → Part
   Count : ℕ → Part
 
--- that the code's part is
+-- the part that a part of the code is
 abbrev pub part_view : CodePart → Part
 part_view (code.Conf word) = Conf word.now
 part_view (code.Seed n) = Seed n
@@ -58,7 +59,7 @@ abbrev pub as_count : Option ℕ → Option Part
 as_count None = None
 as_count (Some n) = if nat_lt n 1 || nat_lt COUNT_LIMIT n then None else Some (Count n)
 
--- the part that an option's value is
+-- the part that an option's value makes, with the words after it
 abbrev pub numbered : (Option ℕ → Option Part) → Option (List ℕ × List (List ℕ)) → Option (Part × List (List ℕ))
 numbered make None = None
 numbered make (Some r) = with_rest r.1 (make (number_of r.0))

@@ -1,4 +1,4 @@
--- What the words behind the program's name ask for.
+-- What the words after the program's name ask for.
 use Rattle.std.specs.Prelude.{◌≡◌, ◌⊎◌, ◌≤◌, nat_le, ◌==◌, ℕ, Bool, true, false, not, ◌&&◌, List, [], ◌∷◌, ◌++◌, length, codes}
 use Rattle.std.specs.Char.{is_ascii_digit}
 use Rattle.std.specs.List.{list_all}
@@ -22,7 +22,7 @@ names_file (first ∷ rest) = not (first == 45)
 abbrev pub is_numeral : List ℕ → Bool
 is_numeral word = nat_le 1 (length word) && nat_le (length word) DIGIT_LIMIT && list_all is_ascii_digit word
 
--- such digits, and the number that they write
+-- the word is 1 to DIGIT_LIMIT digits, which write this number
 abbrev pub IsNumeralOf : List ℕ → ℕ → Type 0
 IsNumeralOf word n = (is_numeral word ≡ true) × (n ≡ digits_value 10 word)
 
@@ -37,7 +37,7 @@ InAnyOrder words a b c =
     ⊎ (((words ≡ b ++ (a ++ c)) ⊎ (words ≡ b ++ (c ++ a)))
     ⊎ ((words ≡ c ++ (a ++ b)) ⊎ (words ≡ c ++ (b ++ a))))
 
--- CONF, `--seed N` and `--count N`, each once
+-- the words are CONF, `--seed N` and `--count N`, each once
 pub record IsWorkload (words : List (List ℕ)) (conf : List ℕ) (seed count : ℕ) : Type 0 where
   pub seed_words : List (List ℕ)
   pub count_words : List (List ℕ)
@@ -55,7 +55,7 @@ word_of verb.Script = codes "script"
 word_of verb.Log = codes "log"
 word_of verb.Gen = codes "gen"
 
--- the command's word, and CONF behind it
+-- the words are the command's word and CONF after it
 abbrev pub IsOverFile : Verb → List (List ℕ) → List ℕ → Type 0
 IsOverFile v words conf = (words ≡ word_of v ∷ conf ∷ []) × (names_file conf ≡ true)
 
@@ -66,7 +66,7 @@ Says words (command.Script conf) = IsOverFile verb.Script words conf
 Says words (command.Log conf) = IsOverFile verb.Log words conf
 Says words (command.Gen conf seed count) = (rest : List (List ℕ)) × (words ≡ word_of verb.Gen ∷ rest) × IsWorkload rest conf seed count
 
--- its file
+-- the configuration's file of a command
 abbrev pub file_of : Command → List ℕ
 file_of (command.Pipe conf) = conf
 file_of (command.Script conf) = conf

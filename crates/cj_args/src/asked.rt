@@ -33,7 +33,7 @@ pub enum Command {
     Log {
         conf: ConfPath,
     },
-    /// Run the workload of that many statements, drawn from the seed.
+    /// Run a workload of `count` statements, drawn from the seed.
     Gen {
         conf: ConfPath,
         seed: u64,

@@ -28,6 +28,7 @@ impl ConfPath {
         Ok(ConfPath { text })
     }
 
+    /// Returns the path as it was written.
     pub fn as_str(&self) -> &str
         ensures { result.now ≡ self.now }
     {

@@ -1,4 +1,11 @@
-//! The words behind the program's name, read into what they ask for.
+//! The words after the program's name: what they ask for, and the texts of help and version.
+//!
+//! Promised: `read` finds what the words ask for (`Asks`) and nothing else, and words ask for at most one thing
+//! (`laws`). The texts of help have no contract; `cj_run_tests` looks at them.
+//! To change a command: its words are in `reading.rt` and `specs/Words`, the options of `gen` in `parts.rt`, and its
+//! help in `texts.rt`.
+//! To read: `specs/Words`; `specs/Proving` says how the code reads. Proofs begin in `proofs/PartWords`, then
+//! `proofs/Workloads` and `proofs/Asking`.
 #![tactic(auto)]
 
 mod asked;

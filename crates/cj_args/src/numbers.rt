@@ -6,7 +6,7 @@ ghost use Rattle.std.specs.List.{list_all};
 ghost use Rattle.cj_args.specs.Words as words;
 ghost use Rattle.cj_args.specs.Proving as reading;
 
-/// The most digits of a number: each number of so many is a `u64`.
+/// The most digits of a number. Each number of so many digits is a `u64`.
 pub const DIGIT_LIMIT: usize = 19;
 
 fn are_digits(word: &[u8]) -> bool
@@ -21,7 +21,7 @@ fn is_numeral(word: &[u8]) -> bool
     1 <= word.len() && word.len() <= DIGIT_LIMIT && are_digits(word)
 }
 
-/// The number that the word writes, if it is a numeral.
+/// Returns the number that the word writes, if the word is a numeral.
 pub(crate) fn number(word: &[u8]) -> Option<u64>
     ensures { result ≡ reading.number_of word.now }
 {

@@ -29,7 +29,7 @@ pub(crate) fn names_file(word: &str) -> bool
     }
 }
 
-/// The first word, and those behind it.
+/// Returns the first word, and the words after it.
 pub(crate) fn next_word(words: &[String]) -> Option<(&str, &[String])>
     ensures { option_map (λ r. (r.0.now, map string_bytes r.1.now)) result ≡ reading.next_word (map string_bytes words.now) }
 {
@@ -39,14 +39,15 @@ pub(crate) fn next_word(words: &[String]) -> Option<(&str, &[String])>
     }
 }
 
-/// What follows this front in the word.
+/// Returns what follows this front in the word, if the word begins with it.
 fn behind<'a>(front: &[u8], word: &'a [u8]) -> Option<&'a [u8]>
     ensures { option_copied result ≡ reading.behind front.now word.now }
 {
     word.strip_prefix(front)
 }
 
-/// The value of an option that the words begin with, in a word of its own or behind `=`.
+/// Returns the value of an option that the words begin with, in a word of its own or after `=`, and
+/// the words after it.
 fn value<'a>(name: &[u8], assigned: &[u8], words: &'a [String]) -> Option<(&'a [u8], &'a [String])>
     ensures { option_map (λ r. (r.0.now, map string_bytes r.1.now)) result ≡ reading.value name.now assigned.now (map string_bytes words.now) }
 {
@@ -90,7 +91,7 @@ fn count_part(words: &[String]) -> Option<(Part<'_>, &[String])>
     Some((Part::Count(count), rest))
 }
 
-/// The part that the words begin with, and the words behind it.
+/// Returns the part that the words begin with, and the words after it.
 fn next_part(words: &[String]) -> Option<(Part<'_>, &[String])>
     ensures { option_map (λ r. (part_view r.0, map string_bytes r.1.now)) result ≡ reading.part (map string_bytes words.now) }
 {
@@ -103,7 +104,7 @@ fn next_part(words: &[String]) -> Option<(Part<'_>, &[String])>
     count_part(words)
 }
 
-/// The three, where each stands there once.
+/// Returns configuration, seed and count, if the three parts are one of each.
 fn each_once<'a>(a: Part<'a>, b: Part<'a>, c: Part<'a>) -> Option<(&'a str, u64, u64)>
     ensures { option_map (λ r. (r.0.now, r.1, r.2)) result ≡ reading.each_once (part_view a.entry) (part_view b.entry) (part_view c.entry) }
 {
@@ -118,7 +119,7 @@ fn each_once<'a>(a: Part<'a>, b: Part<'a>, c: Part<'a>) -> Option<(&'a str, u64,
     }
 }
 
-/// The configuration, the seed and the count of a workload's words.
+/// Returns the configuration, the seed and the count of a workload's words, if they are such.
 pub(crate) fn workload(words: &[String]) -> Option<(&str, u64, u64)>
     ensures { option_map (λ r. (r.0.now, r.1, r.2)) result ≡ reading.workload (map string_bytes words.now) }
 {

@@ -1,4 +1,4 @@
-//! The words, read.
+//! Reads the words after the program's name.
 
 ghost use Rattle.std.specs.Prelude.{◌≡◌, ◌↔◌, map, option_copied, option_map, string_bytes, IfErr, IfOk, IfSome, IsNone, IsSome};
 ghost use Rattle.cj_args.specs.Words.{AsksCommand, Says, file_of};
@@ -30,7 +30,7 @@ fn verb_of(word: &str) -> Option<Verb>
     None
 }
 
-/// The one word, if it names a configuration.
+/// Returns the word, if it is the only one and names a configuration.
 fn only_conf(words: &[String]) -> Option<&str>
     ensures { option_copied result ≡ reading.only_conf (map string_bytes words.now) }
 {
@@ -53,7 +53,7 @@ fn workload_command(alloc: Global, words: &[String]) -> Result<Option<Command>, 
     }
 }
 
-/// The command of the other verbs, over their one file.
+/// Returns the command of a verb other than `gen`, with its one file.
 fn file_command(alloc: Global, verb: Verb, conf: &str) -> Result<Option<Command>, NoMemory>
     ensures found { IfOk result (λ command. command ≡ reading.file_command verb conf.now) }
     ensures memory { IfErr result (λ _. IsSome (reading.file_command verb conf.now)) }
@@ -75,7 +75,7 @@ fn file_command(alloc: Global, verb: Verb, conf: &str) -> Result<Option<Command>
     }
 }
 
-/// The command that the verb is with these words behind it.
+/// Returns the command that the verb is with these words after it.
 fn command_of(alloc: Global, verb: Verb, words: &[String]) -> Result<Option<Command>, NoMemory>
     ensures found { IfOk result (λ command. command ≡ reading.command_of verb (map string_bytes words.now)) }
     ensures memory { IfErr result (λ _. IsSome (reading.command_of verb (map string_bytes words.now))) }
@@ -89,7 +89,7 @@ fn command_of(alloc: Global, verb: Verb, words: &[String]) -> Result<Option<Comm
     }
 }
 
-/// Whether this is the one word.
+/// Whether the text is the only word.
 fn is_only(text: &str, words: &[String]) -> bool
     ensures { result ≡ reading.is_only text.now (map string_bytes words.now) }
 {
@@ -99,7 +99,7 @@ fn is_only(text: &str, words: &[String]) -> bool
     }
 }
 
-/// What the words behind a verb ask for: its command, or its help.
+/// Returns what the words after a verb ask for: its command, or its help.
 fn asked_of_verb(alloc: Global, verb: Verb, words: &[String]) -> Result<Option<Asked>, NoMemory>
     ensures found { IfOk result (λ asked. asked ≡ reading.asked_of_verb verb (map string_bytes words.now)) }
     ensures memory { IfErr result (λ _. IsSome (reading.command_of verb (map string_bytes words.now))) }
@@ -113,7 +113,7 @@ fn asked_of_verb(alloc: Global, verb: Verb, words: &[String]) -> Result<Option<A
     Ok(None)
 }
 
-/// What words that begin with no verb ask for.
+/// Returns what words that begin with no verb ask for.
 fn asked_of_program(words: &[String]) -> Option<Asked>
     ensures { result ≡ reading.asked_of_program (map string_bytes words.now) }
 {
@@ -139,9 +139,8 @@ fn asked_of(alloc: Global, words: &[String]) -> Result<Option<Asked>, NoMemory>
     }
 }
 
-/// What the words behind the program's name ask for: it is this, and no other words ask for it.
-/// None answers every list of words that asks for nothing. Want of memory is the one error, and comes
-/// only where the words are those of a command.
+/// Returns what the words after the program's name ask for, or `None` if they ask for nothing.
+/// `NoMemory` is the only error, and comes only for the words of a command.
 pub fn read(alloc: Global, words: &[String]) -> Result<Option<Asked>, NoMemory>
     ensures found { IfOk result (λ found. (asked : Asked) → (found ≡ Some asked) ↔ AsksCommand (map string_bytes words.now) asked) }
     ensures memory { IfErr result (λ _. (command : Command) × Says (map string_bytes words.now) command) }
@@ -149,7 +148,7 @@ pub fn read(alloc: Global, words: &[String]) -> Result<Option<Asked>, NoMemory>
     asked_of(alloc, words)
 }
 
-/// The file of the command that the verb is with these words behind it.
+/// Returns the file of the command that the verb is with these words after it.
 fn conf_of(verb: Verb, words: &[String]) -> Option<&str>
     ensures { option_copied result ≡ option_map file_of (reading.command_of verb (map string_bytes words.now)) }
 {
@@ -174,8 +173,8 @@ fn conf_in(words: &[String]) -> Option<&str>
     }
 }
 
-/// The file of the command that the words are; None exactly where they are no command's. It takes no
-/// memory.
+/// Returns the configuration's file of the command that the words are, or `None` exactly if they
+/// are no command. This takes no memory.
 pub fn conf_word(words: &[String]) -> Option<&str>
     ensures some { IfSome result (λ conf. (command : Command) × Says (map string_bytes words.now) command × (conf.now ≡ file_of command)) }
     ensures none { IsNone result → (command : Command) → Says (map string_bytes words.now) command → ⊥ }

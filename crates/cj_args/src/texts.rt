@@ -123,7 +123,7 @@ fn gen_help(alloc: Global) -> Result<String, NoMemory> {
     Ok(command.render_help()?)
 }
 
-/// The text of help, with a line feed at its end.
+/// Returns the text of help on a topic, with a line feed at its end. `NoMemory` is the only error.
 pub fn help_text(alloc: Global, topic: Topic) -> Result<String, NoMemory> {
     match topic {
         Topic::Program => program_help(alloc),
@@ -134,7 +134,8 @@ pub fn help_text(alloc: Global, topic: Topic) -> Result<String, NoMemory> {
     }
 }
 
-/// The program's name and version, with a line feed at its end.
+/// Returns the program's name and version, with a line feed at the end. `NoMemory` is the only
+/// error.
 pub fn version_text(alloc: Global) -> Result<String, NoMemory> {
     let program = Command::new(alloc, NAME).version(VERSION);
     Ok(program.render_version()?)

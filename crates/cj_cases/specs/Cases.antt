@@ -9,8 +9,8 @@ pub record FailingCalls : Type 0 where
   pub output : List ℕ
   pub errors : List ℕ
 
--- its number among the cases, 0 before the first; its name; what a run is handed; the most bytes that the input gives
--- at a call; whether the log is shown
+-- what is known of a case: its number among the cases, 0 before the first, its name, what a run is handed, the most
+-- bytes that the input gives at a call, and whether the log is shown
 pub record CaseState : Type 0 where
   pub number : ℕ
   pub name : List ℕ
@@ -25,7 +25,7 @@ pub record CaseState : Type 0 where
 abbrev pub no_fails : FailingCalls
 no_fails = record { configuration = []; log = []; input = []; output = []; errors = [] }
 
--- the largest `u64`: as many bytes as fit
+-- the largest `u64`, for an input that gives as many bytes at a call as fit
 abbrev pub no_limit : ℕ
 no_limit = 2 ^ 64 - 1
 
@@ -43,11 +43,11 @@ fresh number name configuration log = record {
   shows_log = false;
 }
 
--- before the first line
+-- the state before the first line
 abbrev pub no_case : CaseState
 no_case = fresh 0 [] [] []
 
--- after a run that left these bytes in the log: the next run of the case is of the same configuration, and goes on
--- with that log
+-- a case after a run that left these bytes in the log: its next run has the same configuration, and goes on with that
+-- log
 abbrev pub ran : CaseState → List ℕ → CaseState
 ran c log = fresh c.number c.name c.configuration log

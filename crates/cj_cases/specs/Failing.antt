@@ -2,6 +2,7 @@
 use Rattle.cj_cases.specs.Cases.{FailingCalls}
 use Rattle.cj_cases.specs.declared.case.Fails.{Fails}
 
+-- the lists of failing calls as contracts see them
 abbrev pub calls_of : Fails → FailingCalls
 calls_of f = record {
   configuration = f.configuration.items;

@@ -23,46 +23,46 @@ use Rattle.cj_cases.specs.declared.verb.TheConstants.{VERBS}
 abbrev pub items_of : Option (Vec ℕ) → Option (List ℕ)
 items_of bytes = option_map (λ v. v.items) bytes
 
--- the words' bytes
+-- the bytes of the words
 abbrev pub word_items : Option (Vec (String Global)) → Option (List (List ℕ))
 word_items words = option_map (λ v. map string_bytes v.items) words
 
 -- ---- parts of a text
 
--- what stands before the first such byte, or all where there is none
+-- what comes before the first such byte, or all if there is none
 abbrev pub before : ℕ → List ℕ → List ℕ
 before c [] = []
 before c (b ∷ bytes) = if b == c then [] else b ∷ before c bytes
 
--- what stands behind it
+-- what comes after the first such byte
 abbrev pub behind : ℕ → List ℕ → Option (List ℕ)
 behind c [] = None
 behind c (b ∷ bytes) = if b == c then Some bytes else behind c bytes
 
--- the first part is one byte longer
+-- the parts, of which the first is one byte longer
 abbrev pub longer_by : ℕ → List (List ℕ) → List (List ℕ)
 longer_by b [] = (b ∷ []) ∷ []
 longer_by b (part ∷ parts) = (b ∷ part) ∷ parts
 
--- what stands between these bytes
+-- the parts between these bytes
 abbrev pub parts_between : ℕ → List ℕ → List (List ℕ)
 parts_between c [] = [] ∷ []
 parts_between c (b ∷ bytes) = if b == c then [] ∷ parts_between c bytes else longer_by b (parts_between c bytes)
 
--- the parts of what may be left behind such a byte
+-- the parts of what is left after such a byte, if anything is
 abbrev pub parts_behind : ℕ → Option (List ℕ) → List (List ℕ)
 parts_behind c None = []
 parts_behind c (Some bytes) = parts_between c bytes
 
--- the lines of a text; behind its last LF, too, stands one, which may be empty
+-- the lines of a text; after its last LF comes one more, which may be empty
 abbrev pub lines_of : List ℕ → List (List ℕ)
 lines_of bytes = parts_between 10 bytes
 
--- up to the first space
+-- what comes before the first space
 abbrev pub first_word : List ℕ → List ℕ
 first_word line = before 32 line
 
--- behind it; nothing where there is none
+-- what comes after the first space; nothing if there is none
 abbrev pub behind_word : List ℕ → List ℕ
 behind_word line = unwrap_or (behind 32 line) []
 
@@ -87,7 +87,7 @@ abbrev pub number_from : ℕ → List ℕ → Option ℕ
 number_from n [] = Some n
 number_from n (b ∷ bytes) = elim (with_digit n b) [ Some m ↦ number_from m bytes | None ↦ None ]
 
--- a number in decimal digits, of which the first is no 0 unless it stands alone
+-- a number in decimal digits, without a leading 0 unless it is 0
 abbrev pub number_of : List ℕ → Option ℕ
 number_of [] = None
 number_of (b ∷ []) = number_from 0 (b ∷ [])
@@ -115,7 +115,7 @@ object_of word =
 
 -- ---- what is said
 
--- this call of the object fails, too
+-- the failing calls, with this one of the object
 abbrev pub failing_in : FailingCalls → Object → ℕ → FailingCalls
 failing_in f objects.Configuration n = record f { configuration = f.configuration ++ n ∷ [] }
 failing_in f objects.Log n = record f { log = f.log ++ n ∷ [] }
@@ -141,14 +141,14 @@ with_query c None = None
 with_query c (Some text) =
     if nat_lt (length text + 1) (2 ^ 32) then Some (with_input c (frame (messages.Query text))) else None
 
--- another case: all but the configuration is new
+-- the next case of this name: all but the configuration is new
 abbrev pub begun : CaseState → List ℕ → CaseState
 begun c name = fresh (next c.number) name c.configuration []
 
 abbrev pub with_configuration : CaseState → List ℕ → CaseState
 with_configuration c bytes = record c { configuration = bytes }
 
--- a line more of the configuration
+-- the case with one more line of configuration
 abbrev pub with_configuration_line : CaseState → List ℕ → CaseState
 with_configuration_line c bytes = with_configuration c (c.configuration ++ bytes ++ 10 ∷ [])
 
@@ -168,7 +168,7 @@ said_of_case c Pieces text = with_pieces c (number_of text)
 said_of_case c Fails text = with_failing c (object_of (first_word text)) (number_of (behind_word text))
 said_of_case c Show text = if bytes_eq text (codes "log") then Some (record c { shows_log = true }) else None
 
--- what is said by this verb and the text behind it: before the first case only the configuration, or that a case
+-- what is said by this verb and the text after it: before the first case only the configuration, or that a case
 -- begins
 abbrev pub said_by : CaseState → Option Verb → List ℕ → Option CaseState
 said_by c None text = None
@@ -188,7 +188,7 @@ said c line =
     else if bytes_eq line (codes "configuration") then Some (with_configuration c [])
     else said_by c (verb_of (first_word line)) (behind_word line)
 
--- what a call that took a line answers: whether it was a directive; then the case is as it says, and else as before
+-- whether a call that took a line found a directive; then the case is as the directive says, and else as before
 abbrev pub SaysOfCase : Option CaseState → CaseState → CaseState → Bool → Type 0
 SaysOfCase wanted old new true = wanted ≡ Some new
 SaysOfCase wanted old new false = (wanted ≡ None) × (new ≡ old)

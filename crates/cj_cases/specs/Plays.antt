@@ -38,7 +38,7 @@ pub record SaysLine (c : CaseState) (line written : List ℕ) (z : CaseState) : 
   pub says : said c line ≡ Some z
   pub nothing : written ≡ []
 
--- a line is played
+-- a line runs the case or says something of it
 abbrev pub PlaysCaseLine : (CaseState → Outcome → Type 0) → CaseState → List ℕ → List ℕ → CaseState → Type 0
 PlaysCaseLine gives c line written z = RunsCase gives c line written z ⊎ SaysLine c line written z
 
@@ -67,11 +67,11 @@ pub record PlayedAllCases (gives : CaseState → Outcome → Type 0) (lines : Li
   pub plays : PlaysCaseLines gives no_case lines written last
   pub appended : Appends held held' written
 
--- the cases up to a line that is none of them, which counts where it was to begin another
+-- the number of cases up to a line that is no directive; one that was to begin another case counts as one
 abbrev pub number_at : CaseState → List ℕ → ℕ
 number_at c line = if bytes_eq (first_word line) (codes "case") then next c.number else c.number
 
--- what is written of such a line
+-- what is written of a line that is no directive
 abbrev pub refused_line : CaseState → List ℕ → List ℕ
 refused_line c line = codes "case " ++ decimal (number_at c line) ++ 10 ∷ []
 
@@ -89,7 +89,7 @@ pub record PlayedCasesTo (gives : CaseState → Outcome → Type 0) (Refuses : L
   pub appended : Appends held held' written
   pub refused : Refuses (refused_line last line)
 
--- a line that is played in part: of the text of its run a front was written, which is not the whole
+-- a line is played in part: a part of the text of its run was written, less than the whole
 pub record PlaysInPart (gives : CaseState → Outcome → Type 0) (c : CaseState) (line : List ℕ)
     (held held' : Option (List ℕ)) : Type 0 where
   pub written : List ℕ
@@ -103,14 +103,14 @@ pub record PlaysInPart (gives : CaseState → Outcome → Type 0) (c : CaseState
 abbrev pub WritesNone : (held held' : Option (List ℕ)) → Type 0
 WritesNone held held' = Appends held held' []
 
--- what is written of a line in which this came: a fault only while its text was written, and want of memory before
--- that, too
+-- how far a line was played in which this error came: a fault comes only while its text is written, and memory may
+-- run out before that, too
 abbrev pub StopsPlay : (CaseState → Outcome → Type 0) → CaseState → List ℕ → (held held' : Option (List ℕ)) → OutError
     → Type 0
 StopsPlay gives c line held held' errors.Failed = PlaysInPart gives c line held held'
 StopsPlay gives c line held held' errors.NoMemory = WritesNone held held' ⊎ PlaysInPart gives c line held held'
 
--- the lines before this one were played, and in it this came
+-- the lines before this one were played, and this error came in it
 pub record PlayedSomeCases (gives : CaseState → Outcome → Type 0) (lines : List (List ℕ)) (held held' : Option (List ℕ))
     (error : OutError) : Type 0 where
   pub front : List (List ℕ)
@@ -142,7 +142,7 @@ PlaysCases gives Refuses left left' held held' status =
     ⊎ (((status ≡ 11) × ReadsAll left left' (Err read_errors.Spent) × WritesNone held held')
     ⊎ ((status ≡ 1) × ReadsAll left left' (Err read_errors.NoMemory) × WritesNone held held')))
 
--- the text was written, or a front of it where the sink failed, which it counted, or memory was wanting
+-- the text was written; or a part of it, if the sink failed, which it counted, or memory ran out
 pub record WritesLine (held held' : Option (List ℕ)) (faults faults' : ℕ) (text : List ℕ) : Type 0 where
   pub answer : Result Unit OutError
   pub bytes : WritesAll held held' text answer
@@ -150,7 +150,7 @@ pub record WritesLine (held held' : Option (List ℕ)) (faults faults' : ℕ) (t
 
 -- ---- parts of it
 
--- of the text of a run a front was written, which is not the whole
+-- a part of the text of a run was written, less than the whole
 pub record RunsInPart (gives : CaseState → Outcome → Type 0) (c : CaseState)
     (held held' : Option (List ℕ)) : Type 0 where
   pub outcome : Outcome
@@ -161,8 +161,8 @@ pub record RunsInPart (gives : CaseState → Outcome → Type 0) (c : CaseState)
   pub cut : count < length text
   pub appended : Appends held held' (take count text)
 
--- what a call that runs the case answers: the text of the run was written, or a front of it, or nothing for want of
--- memory
+-- how far a call that runs the case came: the text of the run was written, or a part of it, or nothing since memory
+-- ran out
 abbrev pub RunsOrStops : (CaseState → Outcome → Type 0) → CaseState → (held held' : Option (List ℕ)) → CaseState
     → Result Unit OutError → Type 0
 RunsOrStops gives c held held' z (Ok _) = (outcome : Outcome) × gives c outcome
@@ -170,8 +170,8 @@ RunsOrStops gives c held held' z (Ok _) = (outcome : Outcome) × gives c outcome
 RunsOrStops gives c held held' z (Err errors.Failed) = RunsInPart gives c held held'
 RunsOrStops gives c held held' z (Err errors.NoMemory) = WritesNone held held' ⊎ RunsInPart gives c held held'
 
--- what a call that took a line answers: it was played, or is no directive; or a fault or want of memory came, before
--- or while its text was written
+-- how far a call that took a line came: the line was played, or is no directive; or an error came before or while its
+-- text was written
 abbrev pub PlaysOrStops : (CaseState → Outcome → Type 0) → CaseState → List ℕ → (held held' : Option (List ℕ))
     → CaseState → Result Bool OutError → Type 0
 PlaysOrStops gives c line held held' z (Ok true) = (written : List ℕ) × PlaysCaseLine gives c line written z

@@ -8,7 +8,7 @@ use Rattle.cj_cases.specs.Cases.{CaseState}
 use Rattle.cj_cases.specs.Spellings.{shown_text}
 use Rattle.cj_cases.specs.declared.runner.Outcome.{Outcome}
 
--- a piece of bytes: a line, behind which LF stands, or any bytes
+-- a piece of bytes: a line, after which LF comes, or any bytes
 pub data Piece : Type 0 where
   Line : List ℕ → Piece
   Part : List ℕ → Piece
@@ -17,7 +17,7 @@ abbrev pub piece_bytes : Piece → List ℕ
 piece_bytes (Line bytes) = bytes ++ 10 ∷ []
 piece_bytes (Part bytes) = bytes
 
--- a line of a tag and the text that is shown for the bytes
+-- the line of a tag and the text that is shown for the bytes
 abbrev pub tagged_line : List ℕ → List ℕ → List ℕ
 tagged_line tag bytes = tag ++ shown_text bytes ++ 10 ∷ []
 
@@ -33,7 +33,7 @@ pub record ShowsBytes (line_tag : Option (List ℕ)) (part_tag bytes text : List
   pub whole : bytes ≡ flat_map piece_bytes pieces
   pub lines : text ≡ flat_map (piece_line line_tag part_tag) pieces
 
--- the bytes of the log, where it was asked for
+-- the bytes of the log, if the case asks for them
 abbrev pub shown_log : CaseState → List ℕ → List ℕ
 shown_log c log = if c.shows_log then log else []
 

@@ -24,8 +24,8 @@ digit_byte n = if nat_lt n 10 then n + 48 else n + 87
 
 -- ---- from texts to bytes
 
--- What the next byte of a text does at a place: the reader goes to another place; a byte is spelled, and the reader
--- stands between two spellings again; or it is wrong.
+-- What the next byte of a text does at a place: the reader goes to another place; or a byte is spelled, and the
+-- reader is between two spellings again; or the byte is wrong.
 abbrev pub next_step : Place → ℕ → Step
 next_step Between b = if b == 92 then Goes BehindBackslash else Gives b
 next_step BehindBackslash b =
@@ -33,7 +33,7 @@ next_step BehindBackslash b =
 next_step BehindX b = if is_digit b then Goes (BehindDigit (digit_value b)) else Wrong
 next_step (BehindDigit high) b = if is_digit b then Gives (16 * high + digit_value b) else Wrong
 
--- the digit behind which a reader stands is one
+-- the digit before the reader, if the place has one, is a digit
 abbrev pub IsDigitAt : Place → Type 0
 IsDigitAt (BehindDigit high) = high < 16
 IsDigitAt place = Unit {0}
@@ -42,11 +42,11 @@ abbrev pub StepsToPlace : Step → Type 0
 StepsToPlace (Goes next) = IsDigitAt next
 StepsToPlace step = Unit {0}
 
--- one more byte in front
+-- the bytes with one more in front, if there are any bytes
 abbrev pub led_by : ℕ → Option (List ℕ) → Option (List ℕ)
 led_by b bytes = option_map (λ more. b ∷ more) bytes
 
--- a text may end between spellings
+-- a text may end only between spellings
 abbrev pub spelled_at_end : Place → Option (List ℕ)
 spelled_at_end Between = Some []
 spelled_at_end BehindBackslash = None
@@ -64,7 +64,7 @@ spelled_from place (b ∷ text) =
     ]
 
 -- The bytes that a text spells, if it is one: two backslashes are a backslash, \n is LF, \xNN is the byte of these
--- two digits, and each other byte stands for itself.
+-- two digits, and each other byte is itself.
 abbrev pub spelled : List ℕ → Option (List ℕ)
 spelled text = spelled_from Between text
 

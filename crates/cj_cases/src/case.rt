@@ -1,4 +1,4 @@
-//! What a run is handed.
+//! A case: what a run is handed.
 
 ghost use Rattle.std.specs.Prelude.{◌≡◌, map, string_bytes};
 
@@ -70,7 +70,7 @@ impl Model for Case {
 impl Case {
     ghost use Rattle.cj_cases.specs.Cases.{no_case};
 
-    /// No case yet, with nothing said.
+    /// The state before the first case, of which nothing was said.
     pub(crate) fn none(alloc: Global) -> Case
         ensures { result ≡ no_case }
     {
@@ -87,88 +87,92 @@ impl Case {
         }
     }
 
-    /// The case's number among the cases, from 1.
+    /// Returns the case's number among the cases, counted from 1; 0 before the first case.
     pub fn number(&self) -> u64
         ensures { result ≡ self.now.number }
     {
         self.number
     }
 
+    /// Returns the case's name.
     pub fn name(&self) -> &[u8]
         ensures { result.now ≡ self.now.name }
     {
         &self.name
     }
 
-    /// The words of the command.
+    /// Returns the words of the command.
     pub fn words(&self) -> &[String]
         ensures { map string_bytes result.now ≡ self.now.words }
     {
         &self.words
     }
 
+    /// Returns the bytes of the configuration.
     pub fn configuration(&self) -> &[u8]
         ensures { result.now ≡ self.now.configuration }
     {
         &self.configuration
     }
 
-    /// The bytes of the log before the run.
+    /// Returns the bytes of the log before the run.
     pub fn log(&self) -> &[u8]
         ensures { result.now ≡ self.now.log }
     {
         &self.log
     }
 
+    /// Returns the bytes of the input.
     pub fn input(&self) -> &[u8]
         ensures { result.now ≡ self.now.input }
     {
         &self.input
     }
 
-    /// The most bytes that the input gives at a call, at least 1 where a line said it.
+    /// Returns the most bytes that the input gives at a call. Without a line that says it, this is
+    /// the largest `u64`.
     pub fn piece_limit(&self) -> u64
         ensures { result ≡ self.now.piece_limit }
     {
         self.piece_limit
     }
 
-    /// Which calls of the configuration fail, counted from 1.
+    /// Returns the numbers of the configuration's calls that fail, counted from 1.
     pub fn configuration_fails(&self) -> &[u64]
         ensures { result.now ≡ self.now.fails.configuration }
     {
         &self.fails.configuration
     }
 
-    /// Which calls of the log fail.
+    /// Returns the numbers of the log's calls that fail, counted from 1.
     pub fn log_fails(&self) -> &[u64]
         ensures { result.now ≡ self.now.fails.log }
     {
         &self.fails.log
     }
 
-    /// Which calls of the input fail.
+    /// Returns the numbers of the input's calls that fail, counted from 1.
     pub fn input_fails(&self) -> &[u64]
         ensures { result.now ≡ self.now.fails.input }
     {
         &self.fails.input
     }
 
-    /// Which calls of the output fail.
+    /// Returns the numbers of the output's calls that fail, counted from 1.
     pub fn output_fails(&self) -> &[u64]
         ensures { result.now ≡ self.now.fails.output }
     {
         &self.fails.output
     }
 
-    /// Which calls of the errors fail.
+    /// Returns the numbers of the errors' calls that fail, counted from 1.
     pub fn errors_fails(&self) -> &[u64]
         ensures { result.now ≡ self.now.fails.errors }
     {
         &self.fails.errors
     }
 
-    /// Whether the log's bytes are shown behind the run.
+    /// Whether the log's bytes are shown after the run.
     pub fn shows_log(&self) -> bool
         ensures { result ≡ self.now.shows_log }
     {

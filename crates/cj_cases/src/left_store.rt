@@ -1,4 +1,4 @@
-//! A store that is left behind, so that what it holds can be looked at afterwards.
+//! A store that leaves what it holds, so that this can be looked at afterwards.
 
 ghost use Rattle.std.specs.Prelude.{◌≡◌, ◌+◌, ◌-◌, ◌<◌, ◌≤◌, min, true, false, length, IfOk, OnOk, OnErr, IsErr, IsErrOf};
 ghost use Rattle.std.specs.Io.{ReadsAtMost};
@@ -11,7 +11,7 @@ use std::cell::RefCell;
 use std::marker::Model;
 use std::rc::Rc;
 
-/// Where a store is left.
+/// The place in which a store is left.
 pub type Slot = Rc<RefCell<Option<MemStore>>>;
 
 /// A store in memory that is left in a slot when it is dropped.
@@ -29,7 +29,7 @@ impl Model for LeftStore {
 }
 
 impl LeftStore {
-    /// A store that goes on as this one, and stands in the slot once it is dropped.
+    /// Makes a store that goes on as `store`, and is left in the slot when it is dropped.
     pub fn new(store: MemStore, slot: Slot) -> LeftStore
         ensures { result ≡ store }
     {

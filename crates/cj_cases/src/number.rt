@@ -3,7 +3,7 @@
 ghost use Rattle.std.specs.Prelude.{◌≡◌};
 ghost use Rattle.cj_cases.specs.Lines as spec;
 
-/// The number followed by one more digit.
+/// Returns the number with one more digit after it, if the byte is a digit and the result a `u64`.
 fn with_digit(number: u64, b: u8) -> Option<u64>
     ensures { result ≡ spec.with_digit number b }
 {
@@ -17,7 +17,7 @@ fn with_digit(number: u64, b: u8) -> Option<u64>
     }
 }
 
-/// The number that the digits write.
+/// Returns the number that the digits write, if it is a `u64`.
 fn read_digits(digits: &[u8]) -> Option<u64>
     ensures { result ≡ spec.number_from 0 digits.now }
 {
@@ -31,7 +31,7 @@ fn read_digits(digits: &[u8]) -> Option<u64>
     Some(number)
 }
 
-/// The number of a word, whose first digit is no 0 unless it stands alone.
+/// Returns the number that a word is. A number has no leading 0 unless it is 0.
 pub(crate) fn number_of(word: &[u8]) -> Option<u64>
     ensures { result ≡ spec.number_of word.now }
 {

@@ -21,7 +21,7 @@ impl Model for Pieces {
 }
 
 impl Pieces {
-    /// A source of the bytes that this one has left, at most so many at a call.
+    /// Makes a source of the bytes that `source` has left, at most `limit` of them at a call.
     pub fn new(source: MemSource, limit: u64) -> Pieces
         ensures { result ≡ source }
     {

@@ -15,7 +15,7 @@ use std::alloc::Global;
 
 /// All cases were played.
 const PLAYED: u8 = 0;
-/// Memory was wanting.
+/// Memory ran out.
 const NO_MEMORY: u8 = 1;
 /// The source failed.
 const READ_FAULT: u8 = 5;
@@ -33,9 +33,8 @@ fn asks_run(case: &Case, line: &[u8]) -> bool
     case.number() > 0 && line == b"run".as_slice()
 }
 
-/// Runs the case, writes what that came to, and keeps the log that it left.
-///
-/// On an error a front of the text may have been written.
+/// Runs the case, writes what the run gave, and keeps the log that it left. After an error a part
+/// of the text may be written.
 fn run_case<R: Runner, O: Sink>(
     alloc: Global,
     runner: &mut R,
@@ -60,7 +59,7 @@ fn run_case<R: Runner, O: Sink>(
     }
 }
 
-/// Plays a line. Answers whether it was a directive.
+/// Plays a line, and returns whether the line was a directive.
 fn play_line<R: Runner, O: Sink>(
     alloc: Global,
     runner: &mut R,
@@ -83,7 +82,7 @@ fn play_line<R: Runner, O: Sink>(
     }
 }
 
-/// Writes which case has a line that is no directive, where that can be written.
+/// Writes the number of the case with a line that is no directive, if that can be written.
 fn refuse<E: Sink>(alloc: Global, case: &Case, line: &[u8], errors: &mut E)
     ensures { WritesLine (E.held errors.old) (E.held errors.new) (E.faults errors.old) (E.faults errors.new)
         (refused_line case.now line.now) }
@@ -124,18 +123,18 @@ fn play_text<R: Runner, O: Sink, E: Sink>(
     PLAYED
 }
 
-/// Takes the source to its end, plays its lines, and writes the text of each run once that has ended. It answers a
-/// status.
+/// Takes the source to its end, plays its lines, and writes the text of each run once the run has
+/// ended. Returns a status:
 ///
 /// - 0: all lines were played.
-/// - 10: a line is no directive. `case N` was written to the errors, where that could be: N is the number of cases up
-///   to that line.
+/// - 10: a line is no directive. `case N` was written to the errors, if that could be written. N is
+///   the number of cases up to that line.
 /// - 5, 6: the source or the sink failed, and counted it.
 /// - 11: the source has `MOST` bytes or more.
-/// - 1: memory was wanting. All of the source has to fit into it.
+/// - 1: memory ran out. All of the source has to fit into it.
 ///
-/// At 10, and where the sink failed or memory was wanting in a line, the text of all runs before it was written. At 5
-/// and 11 nothing was.
+/// At 10, and if the sink failed or memory ran out in a line, the text of all runs before that line
+/// was written. At 5 and 11 nothing was.
 pub fn play<R: Runner, I: Source, O: Sink, E: Sink>(
     alloc: Global,
     runner: &mut R,

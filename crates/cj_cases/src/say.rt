@@ -20,7 +20,7 @@ use crate::words::words_of;
 use cj_model::NoMemory;
 use std::alloc::Global;
 
-/// A client's message that asks to run a statement.
+/// The kind of a client's message that asks to run a statement.
 const QUERY: u8 = 2;
 
 fn is_remark(line: &[u8]) -> bool
@@ -33,9 +33,8 @@ fn is_remark(line: &[u8]) -> bool
 }
 
 impl Case {
-    /// Takes a line that runs nothing. Answers whether it was a directive.
-    ///
-    /// Where memory is wanting, the case may have a part of what was said.
+    /// Takes a line that runs nothing, and returns whether the line was a directive. After
+    /// `NoMemory` the case may have a part of what was said.
     pub(crate) fn say(&mut self, alloc: Global, line: &[u8]) -> Result<bool, NoMemory>
         ensures { IfOk result (SaysOfCase (said self.old line.now) self.old self.new) }
     {
@@ -84,7 +83,8 @@ impl Case {
         Ok(true)
     }
 
-    /// The cases up to a line that is none of them, which counts where it was to begin another.
+    /// Returns the number of cases up to a line that is no directive. A line that was to begin
+    /// another case counts as one.
     pub(crate) fn number_at(&self, line: &[u8]) -> u64
         ensures { result ≡ plays.number_at self.now line.now }
     {
@@ -96,7 +96,7 @@ impl Case {
         }
     }
 
-    /// Forgets what was said of the run, which left these bytes in the log.
+    /// Forgets what was said of the run. `log` has the bytes that the run left in the log.
     pub(crate) fn forget(&mut self, alloc: Global, log: Vec<u8>)
         ensures { self.new ≡ ran self.old log.items }
     {
@@ -171,7 +171,7 @@ impl Case {
         Ok(true)
     }
 
-    /// Adds a Query's frame, where its length can be written in one.
+    /// Adds the frame of a Query, if its length can be written in one.
     fn add_query(&mut self, alloc: Global, text: &[u8]) -> Result<bool, NoMemory>
         ensures { IfOk result (SaysOfCase (said_of_case self.old verbs.Query text.now) self.old self.new) }
     {
@@ -213,7 +213,7 @@ impl Case {
 }
 
 impl Fails {
-    /// Adds a call of this object that fails.
+    /// Adds a call of this object to those that fail.
     fn add(&mut self, object: Object, call: u64) -> Result<(), NoMemory>
         ensures { OnOk result (calls_of self.new ≡ failing_in (calls_of self.old) object call) }
     {

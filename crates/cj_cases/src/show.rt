@@ -1,4 +1,4 @@
-//! What a run came to, for a person to read.
+//! What a run gave, for a person to read.
 
 ghost use Rattle.std.specs.Prelude.{◌≡◌, ◌++◌, ◌≤◌, ◌<◌, length, None, IfOk, OnOk, codes};
 ghost use Rattle.std.specs.Option.{option_copied};
@@ -10,18 +10,19 @@ use crate::spelling::append_text;
 use cj_model::NoMemory;
 use std::alloc::Global;
 
-/// Where bytes are cut into the pieces that are shown.
+/// Where bytes are split into the pieces that are shown.
 #[derive(Clone, Copy)]
 enum Form {
-    /// Behind each LF.
+    /// After each LF.
     Lines,
     /// At frames: a length of four bytes, and as many more.
     Frames,
-    /// Behind four bytes, and then at records: a byte, a length of eight bytes, and as many more.
+    /// After four bytes, and then at records: a byte, a length of eight bytes, and as many more.
     Records,
 }
 
-/// That of a program's output: frames begin with a byte 0, as none is so long that it doesn't.
+/// Returns the form of a program's output. Frames begin with a byte 0, since none is so long that
+/// it doesn't.
 fn form_of(bytes: &[u8]) -> Form {
     match bytes {
         [0, ..] => Form::Frames,
@@ -56,7 +57,7 @@ fn record_size(bytes: &[u8]) -> usize {
     }
 }
 
-/// How many of the bytes, which stand at this offset, are the next piece.
+/// Returns how many of the bytes, which begin at this offset, are the next piece.
 fn piece_size(form: Form, at: usize, bytes: &[u8]) -> usize
     requires { 0 < length bytes.now }
     ensures some { 0 < result }
@@ -81,8 +82,8 @@ fn append_tagged(text: &mut Vec<u8>, tag: &[u8], bytes: &[u8]) -> Result<(), NoM
     Ok(())
 }
 
-/// Appends the line that shows a piece of this form: a line behind the tag of lines, if there is one, and another
-/// piece behind that of parts.
+/// Appends the line that shows a piece. A line has the tag of lines before it, if there is one. Any
+/// other piece has the tag of parts.
 fn append_piece(
     text: &mut Vec<u8>,
     line_tag: Option<&[u8]>,
@@ -126,7 +127,7 @@ fn append_bytes(
     Ok(())
 }
 
-/// Appends lines that show the log, where that was asked for.
+/// Appends lines that show the log, if the case asks for them.
 fn append_log(text: &mut Vec<u8>, case: &Case, log: &[u8]) -> Result<(), NoMemory>
     ensures { OnOk result
         (AppendsShown None (codes "log ") (shown_log case.now log.now) text.old.items text.new.items) }
@@ -137,7 +138,7 @@ fn append_log(text: &mut Vec<u8>, case: &Case, log: &[u8]) -> Result<(), NoMemor
     Ok(())
 }
 
-/// The lines of a run.
+/// Returns the lines that show a run.
 pub(crate) fn shown(alloc: Global, case: &Case, outcome: &Outcome) -> Result<Vec<u8>, NoMemory>
     ensures { IfOk result (λ text. ShowsOutcome case.now outcome.now text.items) }
 {

@@ -8,14 +8,16 @@ ghost use Rattle.cj_cases.specs.Spellings.{IsDigitAt, StepsToPlace};
 use cj_model::NoMemory;
 use std::alloc::Global;
 
-/// Where a reader of a text stands.
+/// Where a reader is in a text.
 #[derive(Clone, Copy)]
 pub(crate) enum Place {
     /// Between the spellings of two bytes.
     Between,
+    /// After a backslash.
     BehindBackslash,
+    /// After `\x`.
     BehindX,
-    /// Behind the first of two digits, which is this one.
+    /// After the first of two digits, which is this one.
     BehindDigit(u8),
 }
 
@@ -65,7 +67,7 @@ fn next_step(place: Place, b: u8) -> Step
     }
 }
 
-/// The bytes that a text spells, or none where it spells none.
+/// Returns the bytes that a text spells, or `None` if it spells none.
 pub(crate) fn spelled(alloc: Global, text: &[u8]) -> Result<Option<Vec<u8>>, NoMemory>
     ensures { IfOk result (λ bytes. items_of bytes ≡ spec.spelled text.now) }
 {

@@ -45,7 +45,7 @@ fn lookup(mut table: &[(&[u8], Verb)], word: &[u8]) -> Option<Verb>
     None
 }
 
-/// The verb that the word is.
+/// Returns the verb that the word is, if it is one.
 #[tactic(auto, unfolding(crate::specs::Lines::verb_of))]
 pub(crate) fn verb_of(word: &[u8]) -> Option<Verb>
     ensures { result ≡ spec.verb_of word.now }
@@ -63,7 +63,7 @@ pub(crate) enum Object {
     Errors,
 }
 
-/// The object that the word is.
+/// Returns the object that the word is, if it is one.
 pub(crate) fn object_of(word: &[u8]) -> Option<Object>
     ensures { result ≡ spec.object_of word.now }
 {

@@ -7,7 +7,8 @@ use crate::cut::cut;
 use cj_model::NoMemory;
 use std::alloc::Global;
 
-/// The words, with one space between each two; none where one of them is empty or no UTF-8.
+/// Returns the words of a text, which has one space between each two. `None` means that one of them
+/// is empty or no UTF-8.
 pub(crate) fn words_of(alloc: Global, text: &[u8]) -> Result<Option<Vec<String>>, NoMemory>
     ensures { IfOk result (λ words. word_items words ≡ words_of text.now) }
 {

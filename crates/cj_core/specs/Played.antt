@@ -1,4 +1,4 @@
--- Lists of moves: what each came to, and how far a list came.
+-- Lists of moves: what came of each, and how far a list came.
 use Rattle.std.specs.Prelude.{◌≡◌, ℕ, ◌<◌, ◌≤◌, Bool, List, [], ◌∷◌, length, take, Ok, Err}
 use Rattle.cj_cluster.specs.declared.moves.Move.{Move}
 use Rattle.cj_cluster.specs.declared.moves.Made.{Made}
@@ -13,30 +13,31 @@ use Rattle.cj_moves.specs.Armings.{HasArmings}
 use Rattle.cj_moves.specs.Counting.{HasCauses, HasLogCauses, blamed, log_faults_after, tells_log_fault}
 use Rattle.cj_moves.specs.Logins.{HasLogins}
 
--- what a move came to is what it gave
+-- the result of a move that was made, or of one that couldn't be made then
 abbrev pub given_of : Made → MoveResult
 given_of (made.Moved m) = Ok m
 given_of (made.NotNow why) = Err (NotNow why)
 
--- the counts after a list of moves: each fault that one of them tells is counted, one after another
+-- the counts after a list of moves, of which each counts the fault that it tells
 abbrev pub faults_over : List ℕ → List Move → List MoveResult → List ℕ
 faults_over faults [] [] = faults
 faults_over faults (m ∷ ms) (g ∷ gs) = faults_over (faults_after faults (blamed m g)) ms gs
 faults_over faults [] (g ∷ gs) = faults
 faults_over faults (m ∷ ms) [] = faults
 
--- the backends that the moves say failed have counted that, move by move, and no count has changed otherwise
+-- the backends have counted the faults that the moves tell, move by move, and no others
 abbrev pub HaveCauses : WorldState → WorldState → List Move → List MoveResult → Type 0
 HaveCauses old new moves given = faults_of new.cells ≡ faults_over (faults_of old.cells) moves given
 
--- the count of the log's store after a list of moves: each fault that one of them tells is counted, and none else
+-- the count of the log's store after a list of moves, of which each counts the fault that it tells
 abbrev pub log_faults_over : ℕ → List Move → List MoveResult → ℕ
 log_faults_over faults [] [] = faults
 log_faults_over faults (m ∷ ms) (g ∷ gs) = log_faults_over (log_faults_after faults (tells_log_fault m g)) ms gs
 log_faults_over faults [] (g ∷ gs) = faults
 log_faults_over faults (m ∷ ms) [] = faults
 
--- A move leads the world to another and gives this: the state as the moves say, with the faults that backends and the log's store have counted, the backends that were armed, where they can be, and the logins under which backends were called.
+-- A move leads a world to another with this result: the state, the faults of backends and of the log's store, the
+-- backends that were armed, and the logins under which backends were called.
 pub record MovesWorld (tells armable : Bool) (old : WorldState) (m : Move) (given : MoveResult) (new : WorldState) : Type 0 where
   pub moves : MovesTo tells old.core m given new.core
   pub causes : HasCauses old new m given
@@ -45,14 +46,15 @@ pub record MovesWorld (tells armable : Bool) (old : WorldState) (m : Move) (give
   pub logins : HasLogins old new m given
   pub setup : new.setup ≡ old.setup
 
--- the moves do so, one after another
+-- the moves lead a world to another, one after another, with these results
 abbrev pub RunsWorld : (tells armable : Bool) → WorldState → List Move → List MoveResult → WorldState → Type 0
 RunsWorld tells armable old [] [] new = new ≡ old
 RunsWorld tells armable old (m ∷ ms) (g ∷ gs) new = (mid : WorldState) × MovesWorld tells armable old m g mid × RunsWorld tells armable mid ms gs new
 RunsWorld tells armable old [] (g ∷ gs) new = ⊥
 RunsWorld tells armable old (m ∷ ms) [] new = ⊥
 
--- The moves were made in order, and this is what each gave. The replies to each session are a chain of turns from what it had seen.
+-- The moves were made in order, with these results. The replies to each session are a chain of turns from what it had
+-- seen.
 pub record HasRun (tells armable : Bool) (old : WorldState) (moves : List Move) (given : List MoveResult) (new : WorldState) : Type 0 where
   pub steps : RunsWorld tells armable old moves given new
   pub runs : RunsMoves tells old.core moves given new.core
@@ -60,7 +62,8 @@ pub record HasRun (tells armable : Bool) (old : WorldState) (moves : List Move) 
   pub causes : HaveCauses old new moves given
   pub log_causes : new.recovery_log.faults ≡ log_faults_over old.recovery_log.faults moves given
 
--- The first of the moves were made, and no more; the move that stopped them left nothing, but maybe bytes behind the items of the log.
+-- The first of the moves were made, and no more. The move that ended the list changed nothing but maybe bytes after
+-- the items of the log.
 pub record HasRunInPart (tells armable : Bool) (old : WorldState) (moves : List Move) (new : WorldState) : Type 0 where
   pub count : ℕ
   pub within : count ≤ length moves

@@ -5,7 +5,7 @@ use Rattle.cj_model.specs.declared.answer.Reply.{Reply}
 use Rattle.cj_model.specs.declared.answer.Reply.TheVariants.{Refused}
 use Rattle.cj_model.specs.declared.codes.TheConstants.{LOG_FAULT, READ_FAULT, UNFINISHED}
 
--- no count stands at the largest `u64`, where it would stay
+-- no count is the largest `u64`, at which counting stops
 abbrev pub CanCountMore : List ℕ → Type 0
 CanCountMore faults = All (λ (n : ℕ). n < 2 ^ 64 - 1) faults
 

@@ -1,4 +1,4 @@
--- A session over a whole world: what contracts see of it, and where its calls lead.
+-- The desk of one session over a whole world: what contracts see of it, and where its calls lead.
 use Rattle.std.specs.Prelude.{◌≡◌, ◌≢◌, ◌⊎◌, ℕ, zero, suc, ◌+◌, ◌<◌, ◌==◌, ◌&&◌, ◌||◌, not, Bool, true, false, is_some, if◌then◌else◌, List, [], ◌∷◌, ◌++◌, length, map, fold, slice_get, All, Contains}
 use Rattle.std.specs.declared.option.Option.{Option}
 use Rattle.std.specs.declared.option.Option.TheVariants.{None, Some}
@@ -41,12 +41,12 @@ use Rattle.cj_state.specs.Faults.{faults_of, faults_after}
 use Rattle.cj_state.specs.Effects.{with_core}
 use Rattle.cj_moves.specs.Counting.{log_faults_after}
 
--- a world, and the session that is served at it
+-- a world, and the session that its desk serves
 pub record SoloState : Type 0 where
   pub world : WorldState
   pub session : ℕ
 
--- the session sees the whole history, and needs for its reads what it was answered
+-- what the session knows: it sees the whole history, and its reads need the position at which it was last answered
 abbrev pub desk_of : SoloState → DeskState
 desk_of d =
     record {
@@ -57,7 +57,7 @@ desk_of d =
       queries = (session_at d.world.core d.session).requests;
     }
 
--- Between two calls of the session it is open and reads nothing, and no entry is open.
+-- between two calls the session is open and reads nothing, and no entry is open
 pub record StandsBetweenCalls (c : Core) (s : ℕ) : Type 0 where
   pub idle : is_free c.history ≡ true
   pub here : is_open c s ≡ true
@@ -69,7 +69,8 @@ pub record StandsBetweenCalls (c : Core) (s : ℕ) : Type 0 where
 abbrev pub AreCalledFor : List Account → List ℕ → List (Option (List ℕ)) → List (Option (List ℕ)) → Type 0
 AreCalledFor accounts user old new = (b : ℕ) → (slice_get new b ≡ slice_get old b) ⊎ (slice_get new b ≡ Some (Some (login_of accounts user b)))
 
--- Of a user's calls some backends did their part and some failed: the former were called under the login that the user has at each, the latter maybe, and no other was called.
+-- Backends are called for a user: those that did their part under the user's login there, those that failed maybe,
+-- and no others.
 pub record CallsExactly (accounts : List Account) (user : List ℕ) (Did Failed : ℕ → Type 0) (old new : List (Option (List ℕ))) : Type 0 where
   pub only : AreCalledFor accounts user old new
   pub did : (b : ℕ) → Did b → slice_get new b ≡ Some (Some (login_of accounts user b))
@@ -79,7 +80,7 @@ pub record CallsExactly (accounts : List Account) (user : List ℕ) (Did Failed 
 abbrev pub AreBackendsOf : WorldState → List ℕ → Type 0
 AreBackendsOf w failed = All (λ (b : ℕ). b < length w.cells) failed
 
--- each of these backends has counted one fault more, one after another
+-- the counts of faults, with one more for each of these backends
 abbrev pub faults_counted : List ℕ → List ℕ → List ℕ
 faults_counted faults failed = fold (λ (counts : List ℕ) (b : ℕ). faults_after counts (Some b)) faults failed
 
@@ -94,15 +95,16 @@ tells_log_failure (Done count) = false
 tells_log_failure (Rows answer) = false
 tells_log_failure (Stats hits misses) = false
 
--- a write's reply says so
+-- the reply to a write says that the log's store failed
 abbrev pub log_failed_in : Call → Bool
 log_failed_in c = is_some (act_of c.request) && tells_log_failure c.reply
 
--- the history has an event of a failure of the log's store in the call, where the call was answered so
+-- the event of a failure of the log's store in the call, if the reply says so
 abbrev pub log_failure_of : ℕ → Call → List Event
 log_failure_of s c = if tells_log_failure c.reply then LogFailed s c.number ∷ [] else []
 
--- the history grew by the call's entry and its end, where that has a number, and else by a failure of the log's store alone; these backends failed in it
+-- the history grew by the call's entry and its end, in which these backends failed; or, without a number, at most by
+-- a failure of the log's store
 abbrev pub AddsEntry : ℕ → ℕ → Call → Act → List ℕ → List Event → List Event → Type 0
 AddsEntry zero s c act failed h g = (g ≡ h ++ log_failure_of s c) × (failed ≡ [])
 AddsEntry (suc n) s c act failed h g =
@@ -116,7 +118,8 @@ pub record LacksLast (s q : ℕ) (failed : List ℕ) (h g : List Event) : Type 0
   pub grew : g ≡ h ++ map (ReadFailed s q) noted
   pub full : events_left g ≡ 0
 
--- by what the history grew: the failures of a read, or another request's entry or the failure of the log's store, and nothing else
+-- the history grew by the failures of a read, or by another request's entry or the failure of the log's store, and by
+-- nothing else
 abbrev pub AddsOwnEvents : ℕ → Call → Option Act → List ℕ → List Event → List Event → Type 0
 AddsOwnEvents s c None failed h g = (g ≡ h ++ map (ReadFailed s c.number) failed) ⊎ LacksLast s c.number failed h g
 AddsOwnEvents s c (Some act) failed h g = (number : ℕ) × AddsEntry number s c act failed h g
@@ -127,18 +130,18 @@ AddsOwnEvents s c (Some act) failed h g = (number : ℕ) × AddsEntry number s c
 abbrev pub serves_request : Core → Request → ℕ → Bool
 serves_request c r b = is_enabled c.history b && hosts_all c.placement b (needs r)
 
--- the policy picks these of the candidates, one after another and each once, and the balancer stands so then
+-- the policy picks these of the candidates, one after another and each once, and leaves this balance
 abbrev pub PicksInTurn : Balance → (ℕ → Bool) → List ℕ → Balance → Type 0
 PicksInTurn before candidate [] after = after ≡ before
 PicksInTurn before candidate (b ∷ others) after =
     (mask : ℕ) × ((k : ℕ) → in_mask mask k ≡ candidate k) × PicksFirst before mask b × PicksInTurn (read_over before b) (λ k. candidate k && not (k == b)) others after
 
--- those that failed, and behind them the last that was asked, where that didn't fail
+-- the backends that failed, and after them the last that was asked, if that didn't fail
 abbrev pub asked_in : List ℕ → Option ℕ → List ℕ
 asked_in failed None = failed
 asked_in failed (Some b) = failed ++ b ∷ []
 
--- The reply is an answer that was kept of a query outside of transactions.
+-- the reply is an answer that was kept of a query outside transactions
 pub record RepeatsAnswer (c : Call) (cache : CacheState) : Type 0 where
   pub outside : c.tx ≡ 0
   pub select : Select
@@ -147,7 +150,8 @@ pub record RepeatsAnswer (c : Call) (cache : CacheState) : Type 0 where
   pub kept : answer_kept select cache ≡ Some answer
   pub replied : c.reply ≡ Rows answer
 
--- A query is asked of the backends that serve it, one after another as the policy picks them, until one doesn't fail. That one answers, unless memory is wanting.
+-- A query is asked of the backends that serve it, one after another as the policy picks them, until one doesn't fail.
+-- That one answers, unless memory runs out.
 pub record AsksBackends (c : Call) (failed : List ℕ) (old new : WorldState) : Type 0 where
   pub last : Option ℕ
   pub picks : PicksInTurn old.balance (serves_request old.core c.request) (asked_in failed last) new.balance
@@ -164,11 +168,12 @@ pub record AsksBackends (c : Call) (failed : List ℕ) (old new : WorldState) : 
 abbrev pub IsPartOf : Core → Entry → ℕ → Type 0
 IsPartOf c e b = (is_enabled c.history b ≡ true) × (takes_part_in c b e ≡ true)
 
--- whether it failed in an entry or wanted memory for it, by the masks of those that did
+-- whether a backend is in the mask of those that failed in an entry, or of those that ran out of memory in it
 abbrev pub is_masked : ℕ → ℕ → ℕ → Bool
 is_masked failed starved b = in_mask failed b || in_mask starved b
 
--- The entry was handed to each enabled backend. Those that took part in it and are in neither mask did it for the call's user.
+-- The entry was handed to each enabled backend. Those that took part in it and are in neither mask did it for the
+-- call's user.
 pub record HandsOutEntry (s : ℕ) (c : Call) (act : Act) (failed : List ℕ) (old new : WorldState) : Type 0 where
   pub starved : ℕ
   pub ended : new.core.history ≡ old.core.history ++ Sched (entry_of_call s c act) ∷ Ended (mask_with 0 failed) starved ∷ []
@@ -180,7 +185,7 @@ pub record CallsNone (old new : WorldState) : Type 0 where
   pub unscheduled : log new.core.history ≡ log old.core.history
   pub cells : new.cells ≡ old.cells
 
--- An entry asks nobody, and the balancer picks nobody for it.
+-- a write asks no backend a query, and the balancer picks none for it
 pub record CarriesOut (s : ℕ) (c : Call) (act : Act) (failed : List ℕ) (old new : WorldState) : Type 0 where
   pub handed : CallsNone old new ⊎ HandsOutEntry s c act failed old new
   pub asks : asks_of new.cells ≡ asks_of old.cells
@@ -191,7 +196,7 @@ abbrev pub CallsBackends : ℕ → Call → Option Act → List ℕ → WorldSta
 CallsBackends s c None failed old new = AsksBackends c failed old new
 CallsBackends s c (Some act) failed old new = CarriesOut s c act failed old new
 
--- what a backend may answer to a query was answered at the log's end
+-- an answer that a backend may give to a query was given at the log's end
 abbrev pub IsReadAtEnd : Call → SessionView → Type 0
 IsReadAtEnd c z = act_of c.request ≡ None → (answer : Asked) → IsAsked answer → c.reply ≡ asked_reply answer → z.least ≡ length (log z.front)
 
@@ -209,43 +214,44 @@ pub record WorldTurn (tells : Bool) (s : ℕ) (old : WorldState) (c : Call) (new
   pub turn : Turn tells old.core.placement s (seen_at old.core s) c (seen_at new.core s)
   pub at_end : IsReadAtEnd c (seen_at new.core s)
   pub stands : StandsBetweenCalls new.core s
-  -- the backends that failed in it, each as often as it did
+  -- the backends that failed in the call, each as often as it did
   pub failed : List ℕ
   pub backends : AreBackendsOf old failed
   pub events : AddsOwnEvents s c (act_of c.request) failed old.core.history new.core.history
   pub faults : faults_of new.cells ≡ faults_counted (faults_of old.cells) failed
-  -- and the log's store, where the reply to a write says so
+  -- the log's store counted one fault more, if the reply to a write says that it failed
   pub log_faults : new.recovery_log.faults ≡ log_faults_after old.recovery_log.faults (log_failed_in c)
   pub calls : CallsBackends s c (act_of c.request) failed old new
 
 -- ---- the result cache
 
--- the cache behind what a query was answered at the log's end, of n entries: rows are kept, refusals are not
+-- the cache after a query was answered at the log's end, of n entries: rows are kept, refusals are not
 abbrev pub with_answer : Select → ℕ → Reply → CacheState → CacheState
 with_answer s n (Rows answer) cache = after_keep (record { select = s; answer = answer; at = n }) cache
 with_answer s n (Done count) cache = cache
 with_answer s n (Refused refusal) cache = cache
 with_answer s n (Stats hits misses) cache = cache
 
--- A kept answer is replied, unless memory is wanting for it, and no backend is called.
+-- a kept answer is replied, unless memory runs out for it, and no backend is called
 pub record AnswersFromCache (s : Select) (answer : Answer) (old : WorldState) (c : Call) (new : WorldState) : Type 0 where
   pub replied : (c.reply ≡ Rows answer) ⊎ (c.reply ≡ Refused (refusal_of_code NO_MEMORY))
   pub cells : new.cells ≡ old.cells
   pub balance : new.balance ≡ old.balance
   pub looked : new.cache ≡ after_look s old.cache
 
--- where none is kept, backends are asked, and rows that they answer are kept
+-- a kept answer is replied; without one, backends are asked, and rows that they answer are kept
 abbrev pub AnswersLookUp : Select → Option Answer → WorldState → Call → WorldState → Type 0
 AnswersLookUp s None old c new = new.cache ≡ with_answer s (length (log old.core.history)) c.reply (after_look s old.cache)
 AnswersLookUp s (Some answer) old c new = AnswersFromCache s answer old c new
 
--- A query is looked up in the cache exactly outside transactions and where an enabled backend serves it.
+-- a query is looked up in the cache exactly if it is outside transactions and an enabled backend serves it
 pub record ReadsWithCache (s : Select) (old : WorldState) (c : Call) (new : WorldState) : Type 0 where
   pub looked_up : c.tx ≡ 0 → HasServer old.core.placement old.core.history c.request → AnswersLookUp s (answer_kept s old.cache) old c new
   pub inside : c.tx ≢ 0 → new.cache ≡ old.cache
   pub unserved : HasNoServer old.core.placement old.core.history c.request → new.cache ≡ old.cache
 
--- what a call makes of the cache: a query may be answered from it, and an entry drops the answers whose queries need a table that it touches
+-- how a call uses the cache: a query may be answered from it, and an entry drops the answers whose queries need a
+-- table that it touches
 abbrev pub UsesCache : Request → WorldState → Call → WorldState → Type 0
 UsesCache (request.Select s) old c new = ReadsWithCache s old c new
 UsesCache (request.Write w) old c new = CacheFollowsLog old new
@@ -255,7 +261,7 @@ UsesCache request.Begin old c new = CacheFollowsLog old new
 UsesCache request.Commit old c new = CacheFollowsLog old new
 UsesCache request.Rollback old c new = CacheFollowsLog old new
 
--- what a call does besides what every desk does
+-- what a call of this desk does beyond what every desk does
 abbrev pub DoesBesides : Bool → SoloState → DeskCall → SoloState → Type 0
 DoesBesides tells a (turn_taken c) z = (z.session ≡ a.session) × WorldTurn tells a.session a.world c z.world × UsesCache c.request a.world c z.world
 DoesBesides tells a query_skipped z = z ≡ record a { world = with_core a.world (with_request_counted a.world.core a.session) }

@@ -1,4 +1,4 @@
--- What a start leads to, and what the backends hold when a world is given up.
+-- Where a start leads, and what the backends hold when a world is given up.
 use Rattle.std.specs.Prelude.{◌≡◌, ◌⊎◌, ℕ, ◌<◌, Bool, true, false, List, [], ◌∷◌, ◌++◌, All, filter, length, map, slice_get, Result, Ok, Err}
 use Rattle.std.specs.List.{AllPairs, range_with_len}
 use Rattle.std.specs.Option.{option_map}
@@ -27,7 +27,7 @@ use Rattle.cj_state.specs.Beginnings.{opened_core}
 use Rattle.cj_state.specs.Faults.{faults_of}
 use Rattle.cj_state.specs.Worlds.{WorldState}
 
--- what is seen of a backend, but for the transactions that it has begun
+-- what contracts see of a backend, without the transactions that it has begun
 pub record BackendState : Type 0 where
   pub told : Option (List Slot)
   pub faults : ℕ
@@ -35,11 +35,11 @@ pub record BackendState : Type 0 where
   pub login : Option (List ℕ)
   pub arming : Arming
 
--- of backends of a kind
+-- what contracts see of a backend of some kind
 abbrev pub state_by : {X : Type 0} → (X → Option (List Slot)) → (X → ℕ) → (X → ℕ) → (X → Option (List ℕ)) → (X → Arming) → X → BackendState
 state_by told faults asks login arming x = record { told = told x; faults = faults x; asks = asks x; login = login x; arming = arming x }
 
--- of the backend of a cell
+-- what contracts see of the backend of a cell
 abbrev pub started_backend : CellState → BackendState
 started_backend x = record { told = x.told; faults = x.faults; asks = x.asks; login = x.login; arming = x.arming }
 
@@ -58,7 +58,7 @@ HaveBegunNone begun = All (λ (b : List ℕ). b ≡ []) begun
 abbrev pub AreHolding : Bool → Core → List (Option (List Slot)) → Type 0
 AreHolding tells c told = tells ≡ true → (b p : ℕ) → position_at c b ≡ Some p → slice_get told b ≡ Some (Some (part c.placement b (database_after (log c.history) p)))
 
--- where no entry is open, each enabled backend holds its part of the database after the whole log
+-- if no entry is open, each enabled backend holds its part of the database after the whole log
 abbrev pub AreCurrent : Bool → Core → List (Option (List Slot)) → Type 0
 AreCurrent tells c told =
     tells ≡ true → is_free c.history ≡ true → (b : ℕ) → is_enabled c.history b ≡ true → slice_get told b ≡ Some (Some (part c.placement b (database_of (log c.history))))
@@ -69,22 +69,24 @@ AreCurrent tells c told =
 abbrev pub orphans_of : Core → List ℕ
 orphans_of c = filter (is_orphan c) (range_with_len 1 (length (log c.history)))
 
--- the administrator ended this transaction, which some backends failed in and none wanted memory for
+-- the history after the administrator ended this transaction; some backends failed in it, and none ran out of memory
 abbrev pub with_abort : List Event → ℕ → ℕ → List Event
 with_abort h tx failed = h ++ Sched (record { session = 0; seq = 0; tx = tx; user = user_of (entry_numbered (log h) tx); act = act.Abort }) ∷ Ended failed 0 ∷ []
 
--- each of these transactions was ended so, one after another
+-- the administrator ended each of these transactions, one after another
 abbrev pub AbortsEach : List Event → List ℕ → List Event → Type 0
 AbortsEach h [] z = z ≡ h
 AbortsEach h (tx ∷ txs) z = (failed : ℕ) × AbortsEach (with_abort h tx failed) txs z
 
--- After a start a backend is enabled, has taken the whole log and has failed in nothing; or it failed, which it has counted, and is out.
+-- After a start a backend is enabled, has taken the whole log and has failed in nothing; or it failed, which it has
+-- counted, and is out.
 abbrev pub StandsAfterStart : List ℕ → WorldState → ℕ → Type 0
 StandsAfterStart faults w b =
     ((is_enabled w.core.history b ≡ true) × (position_at w.core b ≡ Some (last_number w.core)) × (slice_get (faults_of w.cells) b ≡ slice_get faults b))
     ⊎ ((is_enabled w.core.history b ≡ false) × (position_at w.core b ≡ None) × (slice_get (faults_of w.cells) b ≡ option_map next (slice_get faults b)))
 
--- A start over a log that opens with this history: each backend replayed it, those that did not fail were enabled in the order of their numbers, and then each transaction that was left open was ended.
+-- A start over a log that opens with this history: each backend replayed it, those that did not fail were enabled in
+-- the order of their numbers, and then each transaction that was left open was ended.
 pub record HasStarted (p : Placement) (opening : List Event) (faults : List ℕ) (w : WorldState) : Type 0 where
   pub placement : w.core.placement ≡ p
   pub enabled : List ℕ
@@ -96,7 +98,8 @@ pub record HasStarted (p : Placement) (opening : List Event) (faults : List ℕ)
   pub cells : length w.cells ≡ p.backends
   pub backends : (b : ℕ) → b < p.backends → StandsAfterStart faults w b
 
--- The log's store was found with some items, and the start was one over the history that they open with. Over a log without entries no backend was called.
+-- The log's store had some items, and the start was one over the history that they open with. Over a log without
+-- entries no backend was called.
 pub record StartsFrom (found : List LogItem → Type 0) (p : Placement) (backends : List BackendState) (w : WorldState) : Type 0 where
   pub items : List LogItem
   pub found_in : found items
@@ -105,11 +108,11 @@ pub record StartsFrom (found : List LogItem → Type 0) (p : Placement) (backend
   pub started : HasStarted p opening (map (λ (x : BackendState). x.faults) backends) w
   pub uncalled : log opening ≡ [] → map started_backend w.cells ≡ backends
 
--- The bytes keep the items that they kept, and maybe more behind them; or only a new file was written.
+-- The bytes keep the items that they kept, and maybe more after them; or only a new file was written.
 abbrev pub LosesNothing : List ℕ → List ℕ → Type 0
 LosesNothing old new = WritesOnlyNew old new ⊎ (items : List LogItem) × KeepsItems old items × (more : List LogItem) × KeepsItems new (items ++ more)
 
--- A start that is refused loses nothing. Bytes that are no history's are said to be, and stay as they are.
+-- A start that is refused loses nothing. Bytes that are no history's are reported as such, and stay as they are.
 abbrev pub RefusesBytes : {W S : Type 0} → (S → List ℕ) → List ℕ → Result W (StartError × S) → Type 0
 RefusesBytes held old (Ok w) = Unit {0}
 RefusesBytes held old (Err (errors.StoreFault, store)) = LosesNothing old (held store)
@@ -117,7 +120,7 @@ RefusesBytes held old (Err (errors.NoMemory, store)) = LosesNothing old (held st
 RefusesBytes held old (Err (errors.BadRecord offset, store)) = (Finds log_magic old (Err offset) ⊎ HasBadItem old offset) × (held store ≡ old)
 RefusesBytes held old (Err (errors.BadEntry n, store)) = KeepsBadEntry old n × (held store ≡ old)
 
--- a start counts one fault of the log's store exactly where it answers that this failed
+-- a start counts one fault of the log's store exactly if it answers that this failed
 abbrev pub CountsFaultOfStart : {S : Type 0} → (S → ℕ) → ℕ → Result WorldState (StartError × S) → Type 0
 CountsFaultOfStart faults before (Ok w) = w.recovery_log.faults ≡ before
 CountsFaultOfStart faults before (Err (errors.StoreFault, store)) = faults store ≡ next before

@@ -1,11 +1,11 @@
-//! The list that backends came in.
+//! The list in which backends came, kept for giving them up.
 
 ghost use Rattle.std.specs.Prelude.{◌≡◌, ◌≤◌, [], vec_capacity};
 
 use cj_model::{BACKEND_LIMIT, NoMemory};
 use std::marker::Model;
 
-/// An empty list with room for the most backends, so that they can be given up without memory.
+/// An empty list with room for the most backends, so that giving them up takes no memory.
 #[derive(Drop)]
 pub struct Emptied<B> {
     list: Vec<B>,
@@ -26,7 +26,8 @@ impl<B> Model for Emptied<B> {
 }
 
 impl<B> Emptied<B> {
-    /// An empty list, in which room is made.
+    /// Makes room for the most backends in an empty list. `NoMemory` is the only error, and drops
+    /// the list.
     pub fn new(list: Vec<B>) -> Result<Self, NoMemory>
     where
         B: Drop,
@@ -37,7 +38,7 @@ impl<B> Emptied<B> {
         Ok(Emptied { list })
     }
 
-    /// The list, which is empty and has room for the most backends.
+    /// Returns the list, which is empty and has room for the most backends.
     pub fn into_vec(self) -> Vec<B>
         ensures items { result.items ≡ [] }
         ensures room { BACKEND_LIMIT ≤ vec_capacity result }

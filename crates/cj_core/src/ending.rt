@@ -1,4 +1,4 @@
-//! The transactions that a log leaves open are ended.
+//! The end of a start: the transactions that the log leaves open are ended.
 
 ghost use Rattle.std.specs.Prelude.{◌≡◌, ◌≢◌, ◌+◌, ◌<◌, ℕ, [], OnOk, false, true};
 ghost use Rattle.cj_cluster.specs.History.Histories.{is_free};
@@ -15,7 +15,8 @@ use cj_moves::not_now_apply;
 use cj_outside::Store;
 use cj_state::State;
 
-/// Schedules the administrator's end of the transaction.
+/// Schedules the administrator's end of the transaction. A history without room for it is
+/// `NoMemory`.
 fn schedule_end<B: Backend, S: Store>(state: &mut State<B, S>, tx: u64) -> Result<(), StartError>
     requires orphan { moves.is_orphan state.old.core tx ≡ true }
     requires free { is_free state.old.core.history ≡ true }
@@ -36,7 +37,7 @@ fn schedule_end<B: Backend, S: Store>(state: &mut State<B, S>, tx: u64) -> Resul
     }
 }
 
-/// The backend takes the open entry, where it is enabled and hasn't taken it.
+/// Has the backend carry out the open entry, if it is enabled and hasn't taken it.
 fn take_where_due<B: Backend, S: Store>(state: &mut State<B, S>, b: u8) -> Result<(), StartError>
     requires open { is_free state.old.core.history ≡ false }
     requires within { b < state.old.core.placement.backends }
@@ -53,7 +54,7 @@ fn take_where_due<B: Backend, S: Store>(state: &mut State<B, S>, b: u8) -> Resul
     unless_starved(state.catch_up_open(b))
 }
 
-/// Each enabled backend takes the open entry.
+/// Has each enabled backend carry out the open entry.
 fn take_on_all<B: Backend, S: Store>(state: &mut State<B, S>) -> Result<(), StartError>
     requires { is_free state.old.core.history ≡ false }
     ensures only { OnlyTakes state.old state.new }
@@ -84,7 +85,7 @@ fn end_transaction<B: Backend, S: Store>(state: &mut State<B, S>, tx: u64) -> Re
     Ok(())
 }
 
-/// Ends the transaction of this number, where there is one that is open.
+/// Ends the transaction of this number, if there is one and it is open.
 fn end_where_open<B: Backend, S: Store>(state: &mut State<B, S>, tx: u64) -> Result<(), StartError>
     requires free { is_free state.old.core.history ≡ true }
     requires alone { state.old.core.sessions ≡ [] }
@@ -100,7 +101,9 @@ fn end_where_open<B: Backend, S: Store>(state: &mut State<B, S>, tx: u64) -> Res
     }
 }
 
-/// Ends each transaction that is open, in the order of their numbers. No session is open.
+/// Ends each open transaction, by rising number. No session and no entry is open. After an error
+/// the history begins with the one before. `StoreFault` counts a fault of the log's store, and
+/// `NoMemory` is the only other error.
 pub fn end_all<B: Backend, S: Store>(state: &mut State<B, S>) -> Result<(), StartError>
     requires free { is_free state.old.core.history ≡ true }
     requires alone { state.old.core.sessions ≡ [] }

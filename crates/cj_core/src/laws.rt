@@ -10,15 +10,17 @@ ghost use Rattle.cj_core.specs.QuietCalls.{BlamesNoStore, BlamesNobody, CanCount
 ghost use Rattle.cj_core.specs.Solos.{SoloState, SoloSteps, WorldTurn, desk_of};
 ghost use Rattle.cj_state.specs.Worlds.{WorldState};
 
-/// A call over which no backend counted a fault isn't answered that backends failed; nor, where the log's store counted none,
-/// that this failed.
+/// A call's reply says that backends failed only if a backend counted a fault over the call. A
+/// reply says that the log's store failed only if the store counted one. Counts at the largest
+/// `u64` are left out.
 pub fn quiet_calls_blame_nobody()
     ensures log { (tells : Bool) (s : ℕ) (old new : WorldState) (c : Call) → WorldTurn tells s old c new → new.recovery_log.faults ≡ old.recovery_log.faults → old.recovery_log.faults < 2 ^ 64 - 1 → BlamesNoStore c.reply }
     ensures backends { (tells : Bool) (s : ℕ) (old new : WorldState) (c : Call) → WorldTurn tells s old c new → faults_of new.cells ≡ faults_of old.cells → CanCountMore (faults_of old.cells) → BlamesNobody c.reply }
 {}
 
-/// Where the backends together have counted as many faults after a session as before it, no reply of
-/// the session says that backends failed; and where the log's store has, none says that this failed.
+/// A session's replies say that backends failed only if the backends counted a fault over the
+/// session. They say that the log's store failed only if the store counted one. Counts at the
+/// largest `u64` are left out.
 pub fn quiet_sessions_blame_nobody<T>()
     ensures log { (tells : Bool) (drawn : T → ℕ → ℕ) (later : T → ℕ → T) (moment : Option ℤ) (a : ClientState SoloState T) (taken written : List ℕ) (ending : SessionEnd) (desk : SoloState) (draws : T) →
         (transcript : SessionTranscript (setting desk_of (SoloSteps tells) drawn later moment) a taken written ending desk draws) →

@@ -1,5 +1,13 @@
-//! The core of the controller: a history, the cells of its backends and its open sessions, under
-//! every list of moves.
+//! The core of the controller: a world started from its recovery log, its moves, and the desk of one session.
+//!
+//! A `World` starts from a log with empty backends (`start`). It then changes by moves (`step`, `make`, `run`) or by
+//! the calls of a `Solo`, which serves one session.
+//! Promised: a start loses nothing of the log, moves do what their definitions say, and each call of a `Solo` is a
+//! turn of one database (`WorldTurn`). A session over which nothing counted a fault is not told of one (`laws`).
+//! To change: `solo_read` and `solo_write` serve requests; `start`, `replaying` and `ending` have the start; `runs`
+//! has lists of moves.
+//! To read: `specs/Solos`, `specs/Starts` and `specs/Played`. Proofs begin in `proofs/SoloTurns` with `SoloReads` and
+//! `SoloWrites`, in `proofs/StartWhole` and in `proofs/Making`.
 #![tactic(auto)]
 
 mod emptied;

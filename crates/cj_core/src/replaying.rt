@@ -1,4 +1,4 @@
-//! The backends replay the log, and those that don't fail are enabled.
+//! The beginning of a start: the backends replay the log, and those that don't fail are enabled.
 
 ghost use Rattle.std.specs.Prelude.{◌≡◌, ◌≢◌, ◌<◌, ℕ, OnOk, IfErr, Some, None, false, true};
 ghost use Rattle.cj_cluster.specs.History.Histories as histories;
@@ -17,7 +17,8 @@ use cj_moves::not_now_replay;
 use cj_outside::Store;
 use cj_state::State;
 
-/// Refuses want of memory alone: a backend that failed is out, and the start goes on without it.
+/// Returns `NoMemory` if a backend ran out of memory. A failure is no error: that backend is out,
+/// and the start goes on without it.
 pub fn unless_starved(did: Did) -> Result<(), StartError>
     ensures went { OnOk result (did ≢ Did.Starved) }
     ensures want { IfErr result (λ error. error ≡ StartError.NoMemory) }
@@ -30,7 +31,7 @@ pub fn unless_starved(did: Did) -> Result<(), StartError>
     }
 }
 
-/// The backend takes the log's next entry.
+/// Has the backend carry out the log's next entry.
 #[tactic(auto, using(crate::proofs::StartReplays::took_next))]
 fn replay_next<B: Backend, S: Store>(state: &mut State<B, S>, b: u8) -> Result<(), StartError>
     requires within { b < state.old.core.placement.backends }
@@ -43,7 +44,7 @@ fn replay_next<B: Backend, S: Store>(state: &mut State<B, S>, b: u8) -> Result<(
     unless_starved(state.catch_up_next(b))
 }
 
-/// The backend, which has taken no entry, takes the whole log, or fails.
+/// Has the backend, which has taken no entry, carry out the whole log, until it fails.
 fn replay_whole<B: Backend, S: Store>(state: &mut State<B, S>, b: u8) -> Result<(), StartError>
     requires within { b < state.old.core.placement.backends }
     requires off { histories.is_enabled state.old.core.history b ≡ false }
@@ -60,7 +61,8 @@ fn replay_whole<B: Backend, S: Store>(state: &mut State<B, S>, b: u8) -> Result<
     Ok(())
 }
 
-/// Each backend takes the whole log, or fails.
+/// Has each backend, of which none has taken an entry or is enabled, carry out the whole log. One
+/// that fails is out. The only error is `NoMemory`, if one runs out of memory.
 pub fn replay_everywhere<B: Backend, S: Store>(state: &mut State<B, S>) -> Result<(), StartError>
     requires off { (b : ℕ) → histories.is_enabled state.old.core.history b ≡ false }
     requires first { (b : ℕ) → b < state.old.core.placement.backends → position_at state.old.core b ≡ Some 0 }
@@ -75,7 +77,7 @@ pub fn replay_everywhere<B: Backend, S: Store>(state: &mut State<B, S>) -> Resul
     Ok(())
 }
 
-/// Enables the backend, unless it is out. A history without room for it is want of memory too.
+/// Enables the backend, unless it is out. A history without room for the event is `NoMemory`.
 fn enable_where_there<B: Backend, S: Store>(
     state: &mut State<B, S>,
     b: u8,
@@ -100,7 +102,8 @@ fn enable_where_there<B: Backend, S: Store>(
     }
 }
 
-/// Enables each backend that is not out, in the order of numbers.
+/// Enables each backend that isn't out, in the order of numbers. The only error is `NoMemory`, if
+/// the history has no room for an event.
 #[tactic(auto, using(crate::proofs::StartEnables::enabled_none, crate::proofs::StartEnables::enabled_next))]
 pub fn enable_everywhere<B: Backend, S: Store>(state: &mut State<B, S>) -> Result<(), StartError>
     requires free { is_free state.old.core.history ≡ true }

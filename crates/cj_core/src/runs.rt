@@ -20,8 +20,8 @@ use cj_outside::Store;
 use cj_state::State;
 use std::alloc::Global;
 
-/// Makes a move, or answers why it can't be made now. Want of memory changes nothing but maybe the log's bytes
-/// behind its items.
+/// Makes a move, and gives what came of it or why it can't be made now. `NoMemory` leaves all but
+/// maybe the log's bytes as it was.
 pub fn make<B: Backend, S: Store>(state: &mut State<B, S>, m: Move) -> Result<Made, NoMemory>
     requires { IsMet state.old.core m }
     ensures made { IfOk result (λ made. MovesTo B.tells state.old.core m (given_of made) state.new.core) }
@@ -40,7 +40,7 @@ pub fn make<B: Backend, S: Store>(state: &mut State<B, S>, m: Move) -> Result<Ma
     }
 }
 
-/// The same of a move that stays with its list.
+/// Makes a move of a list, which keeps it, and gives what came of it or why it can't be made now.
 fn make_copy<B: Backend, S: Store>(
     state: &mut State<B, S>,
     alloc: Global,
@@ -60,8 +60,9 @@ fn make_copy<B: Backend, S: Store>(
     make(state, m)
 }
 
-/// Makes the moves in order, and answers what each came to; one that can't be made now changes nothing. After want
-/// of memory the first of them were made, and no more.
+/// Makes the moves in order, and gives for each what came of it or why it couldn't be made. A move
+/// that can't be made leaves history, positions and sessions. After `NoMemory` the first moves were
+/// made, and no more.
 pub fn run<B: Backend, S: Store>(
     state: &mut State<B, S>,
     moves: &Moves,

@@ -1,4 +1,4 @@
-//! A session over a whole world.
+//! The desk of one session, over a whole world.
 
 ghost use Rattle.std.specs.Prelude.{◌≡◌, ◌⊎◌, ◌+◌, ◌<◌, ◌≤◌, ℕ, List, [], length, false, true, IfErr, IfOk, IsErrOf, None};
 ghost use Rattle.std.specs.Bool.{OnTrue};
@@ -36,7 +36,7 @@ use cj_outside::Store;
 use std::alloc::Global;
 use std::marker::Model;
 
-/// The empty text.
+/// Returns the empty text.
 fn empty_text(alloc: Global) -> Text
     ensures { result ≡ [] }
 {
@@ -46,8 +46,8 @@ fn empty_text(alloc: Global) -> Text
     }
 }
 
-/// A desk that owns its world, at which one session is served. It sees the whole history; between two
-/// of its calls no entry is open.
+/// A desk that owns its world and serves one session. The session sees the whole history. Between
+/// two calls of the desk no entry is open.
 #[derive(Drop)]
 pub struct Solo<B: Backend, S: Store> {
     world: World<B, S>,
@@ -71,7 +71,9 @@ impl<B: Backend, S: Store> Model for Solo<B, S> {
 }
 
 impl<B: Backend, S: Store> World<B, S> {
-    /// Opens a session for a user to come, and serves it. It takes no memory.
+    /// Opens a session for a user to come, and makes its desk. No entry is open. If too many
+    /// sessions are open or no number is left, the world comes back as it was. This takes no
+    /// memory.
     pub fn desk(self) -> Result<Solo<B, S>, (SessionsFull, World<B, S>)>
         requires { is_free self.core.history ≡ true }
         ensures opened { IfOk result (λ solo. solo ≡ record { world = with_core self (opened_for self.core []); session = self.core.greatest + 1 }) }
@@ -93,6 +95,7 @@ impl<B: Backend, S: Store> World<B, S> {
 // ---- what a session asks of the world
 
 impl<B: Backend, S: Store> World<B, S> {
+    /// Whether an account has this user and this password.
     fn admits(&self, user: &[u8], password: &[u8]) -> bool
         ensures admitted { result ≡ admits (accounts_of self.now) user.now password.now }
         ensures user { OnTrue result (IsUserName user.now) }
@@ -100,13 +103,14 @@ impl<B: Backend, S: Store> World<B, S> {
         self.state.admits(user, password)
     }
 
-    /// Hits and misses of the result cache.
+    /// Returns the hits and the misses of the result cache.
     pub fn cache_counts(&self) -> (u64, u64)
         ensures { result ≡ (self.now.cache.hits, self.now.cache.misses) }
     {
         self.state.cache_counts()
     }
 
+    /// Counts one request more of session `s`, of which no entry and no read is open.
     fn count(&mut self, s: u64)
         requires counts { (session_at self.old.core s).requests < REQUEST_LIMIT }
         requires idle { moves.is_waiting self.old.core s ≡ false }
@@ -116,6 +120,8 @@ impl<B: Backend, S: Store> World<B, S> {
         self.state.count(s);
     }
 
+    /// Schedules the act as an entry of session `s`, in transaction `tx`, 0 for none, and gives its
+    /// number and reply. The number is 0 if the act was refused.
     fn serve_write(&mut self, s: u64, user: &Text, tx: u64, act: Act) -> Written
         requires stands { StandsBetweenCalls self.old.core s }
         requires counts { (session_at self.old.core s).requests < REQUEST_LIMIT }
@@ -129,6 +135,7 @@ impl<B: Backend, S: Store> World<B, S> {
         serve_write(&mut self.state, s, user, tx, act)
     }
 
+    /// Answers a query of session `s` in transaction `tx`, 0 for none, at the log's end.
     fn serve_read(&mut self, s: u64, user: &Text, tx: u64, select: &Select) -> Reply
         requires stands { StandsBetweenCalls self.old.core s }
         requires counts { (session_at self.old.core s).requests < REQUEST_LIMIT }
@@ -142,14 +149,15 @@ impl<B: Backend, S: Store> World<B, S> {
 }
 
 impl<B: Backend, S: Store> Solo<B, S> {
-    /// The world that it owns.
+    /// Returns the world that the desk owns.
     pub fn world(&self) -> &World<B, S>
         ensures { result.now ≡ self.now.world }
     {
         &self.world
     }
 
-    /// Closes the session, whose open transaction becomes an orphan. It takes no memory.
+    /// Closes the session and returns the world. An open transaction of the session becomes an
+    /// orphan. This takes no memory.
     #[tactic(auto, using(crate::proofs::SoloTurns::stands_idle))]
     pub fn close(self) -> World<B, S>
         ensures { result ≡ with_core self.world (closed_for self.world.core self.session) }
@@ -160,7 +168,7 @@ impl<B: Backend, S: Store> Solo<B, S> {
         World { state, emptied }
     }
 
-    /// Makes a move of no session, as the world does.
+    /// Makes a move that names no session, as `World::step` does.
     pub fn step(&mut self, m: Move) -> Result<Moved, MoveError>
         requires met { IsMet self.old.world.core m }
         requires sessions { IsMoveOfNoSession m }

@@ -1,4 +1,4 @@
-//! A session's read over a whole world.
+//! A session's read, over a whole world.
 
 ghost use Rattle.std.specs.Prelude.{◌≡◌, ◌≢◌, ◌⊎◌, ◌^◌, ◌<◌, is_some, true, OnOk, OnErr};
 ghost use Rattle.cj_model.specs.declared.limits.TheConstants.{BACKEND_LIMIT, REQUEST_LIMIT};
@@ -26,7 +26,7 @@ use cj_model::{
 use cj_outside::Store;
 use cj_state::{AskError, State, without_bit};
 
-/// A backend's answer, as the reply to the session.
+/// Returns the reply to the session for a backend's answer.
 fn reply_of(answer: Asked) -> Reply
     ensures { result ≡ asked_reply answer }
 {
@@ -36,7 +36,8 @@ fn reply_of(answer: Asked) -> Reply
     }
 }
 
-/// Keeps rows that a query was answered at the log's end, outside transactions; the cache takes copies of both.
+/// Keeps the rows that answer a query at the log's end outside transactions. The cache takes copies
+/// of query and rows.
 fn keep<B: Backend, S: Store>(
     state: &mut State<B, S>,
     tx: u64,
@@ -63,7 +64,7 @@ fn keep<B: Backend, S: Store>(
     state.keep(select, rows)
 }
 
-/// Asks one backend. None where it failed, so that another may be asked.
+/// Asks one backend. `None` says that it failed, so that another may be asked.
 #[tactic(auto, using(crate::proofs::SoloTurns::stands_idle))]
 fn attempt<B: Backend, S: Store>(
     state: &mut State<B, S>,
@@ -111,7 +112,7 @@ fn attempt<B: Backend, S: Store>(
     }
 }
 
-/// Replies the answer that is kept of a query.
+/// Replies to a query with its kept answer.
 fn reply_kept<B: Backend, S: Store>(state: &mut State<B, S>, s: u64, select: &Select) -> Reply
     requires stands { StandsBetweenCalls state.old.core s }
     requires counts { (session_at state.old.core s).requests < REQUEST_LIMIT }
@@ -170,8 +171,13 @@ fn ask_in_turn<B: Backend, S: Store>(
     )
 }
 
-/// Answers the session's query in transaction `tx`, 0 for none, at the log's end: from the cache, where its answer is kept, and
-/// else by the first backend picked that doesn't fail.
+/// Answers a query of session `s` in transaction `tx`, 0 for none, at the log's end. A kept answer
+/// is given outside transactions, if there is one. Else the backends that serve the query are
+/// asked, as the policy picks them, until one doesn't fail.
+///
+/// A refusal is the backend's answer, or says why there is none. No backend serves the query, each
+/// that does failed, the history has no room for a failure, or memory ran out. Every reply counts
+/// as one request.
 pub fn serve_read<B: Backend, S: Store>(
     state: &mut State<B, S>,
     s: u64,

@@ -1,4 +1,4 @@
-//! A session's write over a whole world.
+//! A session's write, over a whole world.
 
 ghost use Rattle.std.specs.Prelude.{◌≡◌, ◌≢◌, ◌≤◌, ◌<◌, ℕ, List, length, None, IfErr, OnOk, true, false};
 ghost use Rattle.cj_model.specs.declared.limits.TheConstants.{REQUEST_LIMIT, USER_LIMIT};
@@ -25,7 +25,7 @@ use cj_moves::not_now_apply;
 use cj_outside::Store;
 use cj_state::State;
 
-/// Counts a request of the session that is refused.
+/// Refuses a request of session `s` and counts it.
 #[tactic(auto, using(crate::proofs::SoloTurns::stands_idle))]
 pub fn refuse<B: Backend, S: Store>(state: &mut State<B, S>, s: u64, refusal: Refusal) -> Reply
     requires stands { StandsBetweenCalls state.old.core s }
@@ -37,7 +37,7 @@ pub fn refuse<B: Backend, S: Store>(state: &mut State<B, S>, s: u64, refusal: Re
     Reply::Refused(refusal)
 }
 
-/// The backend takes the open entry, where it is enabled and hasn't taken it.
+/// Has the backend carry out the open entry, if it is enabled and hasn't taken it.
 fn take_if_due<B: Backend, S: Store>(state: &mut State<B, S>, b: u8)
     requires open { is_free state.old.core.history ≡ false }
     requires within { b < state.old.core.placement.backends }
@@ -52,7 +52,7 @@ fn take_if_due<B: Backend, S: Store>(state: &mut State<B, S>, b: u8)
     }
 }
 
-/// Each enabled backend takes the open entry.
+/// Has each enabled backend carry out the open entry.
 fn take_everywhere<B: Backend, S: Store>(state: &mut State<B, S>)
     requires open { is_free state.old.core.history ≡ false }
     ensures taken { EntryTaken (open_user state.old.core) state.old state.new }
@@ -66,7 +66,7 @@ fn take_everywhere<B: Backend, S: Store>(state: &mut State<B, S>)
     state.legal();
 }
 
-/// Ends the open entry, which is of this session, once each enabled backend has taken it.
+/// Ends the open entry, which is one of session `s`, once each enabled backend has taken it.
 fn finish<B: Backend, S: Store>(state: &mut State<B, S>, s: u64) -> Reply
     requires open { is_free state.old.core.history ≡ false }
     requires waits { moves.is_waiting state.old.core s ≡ true }
@@ -79,7 +79,8 @@ fn finish<B: Backend, S: Store>(state: &mut State<B, S>, s: u64) -> Reply
     reply
 }
 
-/// Schedules the act as the session's next entry, in transaction `tx`, 0 for none, or says why it can't.
+/// Schedules the act as the next entry of session `s`, in transaction `tx`, 0 for none, or says why
+/// it can't.
 fn schedule_for<B: Backend, S: Store>(
     state: &mut State<B, S>,
     s: u64,
@@ -113,8 +114,11 @@ fn schedule_for<B: Backend, S: Store>(
     }
 }
 
-/// Schedules the act as the session's next entry, in transaction `tx`, 0 for none, and answers it
-/// once it has ended.
+/// Schedules the act as the next entry of session `s`, in transaction `tx`, 0 for none. Has each
+/// enabled backend carry it out, and gives the entry's number and reply.
+///
+/// A number of 0 comes with a refusal: no backend serves the request, the history has no room, the
+/// log's store failed, or memory ran out. Then nothing was scheduled.
 pub fn serve_write<B: Backend, S: Store>(
     state: &mut State<B, S>,
     s: u64,

@@ -1,4 +1,4 @@
-//! How a world begins, and how it is given up.
+//! How a world starts, and how it is given up.
 
 ghost use Rattle.std.specs.Prelude.{◌≡◌, ◌≤◌, ℕ, true, List, [], length, map, vec_capacity, IfOk, OnOk};
 ghost use Rattle.cj_cluster.specs.History.Histories.{log};
@@ -36,7 +36,7 @@ use cj_shelf::MemoryShelf;
 use cj_state::{Backends, Parts, Shared, State};
 use std::alloc::Global;
 
-/// Moves the backends into cells by their numbers, at their seats, which leaves their list empty.
+/// Moves the backends into cells by their numbers, at their seats. Their list is then empty.
 fn cells_of<B: Backend + Drop>(
     alloc: Global,
     placement: &Placement,
@@ -68,7 +68,8 @@ fn cells_of<B: Backend + Drop>(
     Ok(cells)
 }
 
-/// What a world is made of beside its book: the backends in their cells, at the seats of a new board.
+/// What a world is made of, without its book: the backends in their cells, at the seats of a new
+/// board.
 struct Seated<B: Backend> {
     board: Board,
     book_seat: BookSeat,
@@ -125,8 +126,8 @@ fn backends_of<B: Backend + Drop>(mut cells: Vec<Cell<B>>, mut backends: Vec<B>)
     backends
 }
 
-/// Brings the backends to the end of the log that was opened, enables those that don't fail, and ends the transactions that it
-/// leaves open.
+/// Brings the backends to the end of the opened log, enables those that don't fail, and ends the
+/// transactions that the log leaves open.
 fn bring_up<B: Backend, S: Store>(state: &mut State<B, S>) -> Result<(), StartError>
     requires opened { state.old.core ≡ opened_core state.old.core.placement state.old.core.history }
     requires opening { IsOpening state.old.core.history }
@@ -146,12 +147,14 @@ fn bring_up<B: Backend, S: Store>(state: &mut State<B, S>) -> Result<(), StartEr
 }
 
 impl<B: Backend + Drop, S: Store + Drop> World<B, S> {
-    /// Opens the log, and goes on from it: each backend, which is empty, replays the whole log, those that don't fail are enabled in
-    /// the order of their numbers, and each transaction that was left open is ended. No session is open then.
+    /// Starts a world from its recovery log, with backends that are empty. Each backend replays the
+    /// whole log, and those that don't fail are enabled in the order of their numbers. Then each
+    /// transaction that the log leaves open is ended. No session is open.
     ///
-    /// A backend that fails is out, and the start goes on without it; one that wants memory ends the start with `NoMemory`. Refused,
-    /// it hands the log's store back, in which nothing is lost, and the backends are dropped. `BadRecord` and `BadEntry` come exactly
-    /// where the bytes of the log are no history's, which leaves them as they are.
+    /// A backend that fails is out, and the start goes on without it. One that runs out of memory
+    /// ends the start with `NoMemory`. An error drops the backends and hands the log's store back,
+    /// in which nothing is lost. `BadRecord` and `BadEntry` come exactly if the bytes are no
+    /// history's, and leave them as they are. `StoreFault` counts a fault of the store.
     pub fn start(
         alloc: Global,
         parts: Parts,
@@ -195,7 +198,8 @@ impl<B: Backend + Drop, S: Store + Drop> World<B, S> {
         }
     }
 
-    /// The log's store, as it is. Its bytes keep the history, and so does whatever a stop at this moment leaves of them.
+    /// Takes the world apart and returns the log's store, as it is. Its bytes keep the history, and
+    /// so does whatever a crash at this moment leaves of them.
     pub fn into_log(self) -> S
         ensures faults { S.faults result ≡ self.recovery_log.faults }
         ensures bytes { S.held result ≡ self.recovery_log.bytes }
@@ -206,7 +210,8 @@ impl<B: Backend + Drop, S: Store + Drop> World<B, S> {
         state.into_log()
     }
 
-    /// Takes the world apart: its board, and the book and the cells at the board's seats. It takes no memory.
+    /// Takes the world apart: its board, the book and the cells with seats there, its accounts and
+    /// its dumps. This takes no memory.
     pub fn into_shared(self) -> Shared<B, S>
         ensures world { IsWorld B.tells self }
         ensures fresh { IsFresh B.tells self }
@@ -219,7 +224,8 @@ impl<B: Backend + Drop, S: Store + Drop> World<B, S> {
         state.into_shared(emptied.into_vec())
     }
 
-    /// The backends in the order of their numbers, as they stand. It takes no memory.
+    /// Takes the world apart and returns the backends in the order of their numbers, as they are.
+    /// This takes no memory.
     pub fn into_backends(self) -> Backends<B>
         ensures same { map (state_by B.told B.faults B.asks B.login B.arming) result ≡ map started_backend self.cells }
         ensures begun { KeepEachBegun self.cells (map B.begun result) }

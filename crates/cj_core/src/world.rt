@@ -1,4 +1,4 @@
-//! A world: its state, changed by moves alone.
+//! A world: its state, and the moves that change it.
 
 ghost use Rattle.std.specs.Prelude.{◌≡◌, ◌↔◌, ◌≤◌, ℕ, length, map, true, All, IsNone, IfSome, IfOk, IsErrOf, MatchResult, OnErr, None, Ok};
 ghost use mathlib.Core.List.{IsPrefix};
@@ -35,11 +35,11 @@ use cj_state::State;
 use cj_world_audit::{AuditError, audit};
 use std::marker::Model;
 
-/// The core over these backends.
+/// The controller over these backends, with its history, sessions, accounts and dumps.
 #[derive(Drop)]
 pub struct World<B: Backend, S: Store> {
     pub(crate) state: State<B, S>,
-    /// The list that the backends came in, and are given up in.
+    /// The list in which the backends came and are given up.
     pub(crate) emptied: Emptied<B>,
 }
 
@@ -57,7 +57,8 @@ impl<B: Backend, S: Store> Model for World<B, S> {
 }
 
 impl<B: Backend, S: Store> World<B, S> {
-    /// Shows what holds of every world.
+    /// Shows what holds of every world. The log's bytes keep its history, and its cache has fresh
+    /// answers alone.
     pub fn legal(&self)
         ensures world { IsWorld B.tells self.now }
         ensures logged { S.tells ≡ true → KeepsHistory self.now }
@@ -66,14 +67,14 @@ impl<B: Backend, S: Store> World<B, S> {
         self.state.legal();
     }
 
-    /// How many entries there are, which is the number of the last one.
+    /// Returns how many entries there are, which is the number of the last one.
     pub fn length(&self) -> u64
         ensures { result ≡ moves.last_number self.now.core }
     {
         self.state.length()
     }
 
-    /// The number of the open entry.
+    /// Returns the number of the open entry, or `None` if no entry is open.
     pub fn open_entry(&self) -> Option<u64>
         ensures none { IsNone result ↔ (is_free self.now.core.history ≡ true) }
         ensures number { IfSome result (λ n. n ≡ moves.last_number self.now.core) }
@@ -81,21 +82,21 @@ impl<B: Backend, S: Store> World<B, S> {
         self.state.open_entry()
     }
 
-    /// The mask of the enabled backends.
+    /// Returns the mask of the enabled backends.
     pub fn enabled(&self) -> u32
         ensures { (b : ℕ) → in_mask result b ≡ histories.is_enabled self.now.core.history b }
     {
         self.state.enabled()
     }
 
-    /// How many entries the backend has taken; none where it is out.
+    /// Returns how many entries backend `b` has taken, or `None` if it is out.
     pub fn position(&self, b: u8) -> Option<u64>
         ensures { result ≡ position_at self.now.core b }
     {
         self.state.position(b)
     }
 
-    /// Which backends host which tables, and what they are called.
+    /// Returns the placement: which backends host which tables, and what the backends are called.
     pub fn placement(&self) -> &Placement
         ensures placement { placement_of result.now ≡ self.now.core.placement }
         ensures names { result.now.names ≡ self.now.setup.names }
@@ -103,8 +104,11 @@ impl<B: Backend, S: Store> World<B, S> {
         self.state.placement()
     }
 
-    /// Makes a move, or says why it can't be made now. Want of memory changes nothing but
-    /// maybe the log's bytes behind its items; where it is the backend's that takes an entry, the move says so and the backend is out.
+    /// Makes a move and gives what came of it, or says why the move can't be made now.
+    ///
+    /// `NotNow` leaves the history, the positions and the sessions as they were. `NoMemory` leaves
+    /// all but maybe the log's bytes. A backend that runs out of memory in an entry is out; the
+    /// move then gives `Starved` and no error.
     pub fn step(&mut self, m: Move) -> Result<Moved, MoveError>
         requires { IsMet self.old.core m }
         ensures moves { MovesTo B.tells self.old.core m result self.new.core }
@@ -120,7 +124,8 @@ impl<B: Backend, S: Store> World<B, S> {
         step(&mut self.state, m)
     }
 
-    /// Makes a move, or answers why it can't be made now. Want of memory changes nothing but maybe the log's bytes behind its items.
+    /// Makes a move, and gives what came of it or why it can't be made now. `NoMemory` leaves all
+    /// but maybe the log's bytes as it was.
     pub fn make(&mut self, m: Move) -> Result<Made, NoMemory>
         requires { IsMet self.old.core m }
         ensures made { IfOk result (λ made. MovesTo B.tells self.old.core m (given_of made) self.new.core) }
@@ -135,8 +140,9 @@ impl<B: Backend, S: Store> World<B, S> {
         make(&mut self.state, m)
     }
 
-    /// Makes the moves in order, and answers what each came to; one that can't be made now changes nothing. After want
-    /// of memory the first of them were made, and no more.
+    /// Makes the moves in order, and gives for each what came of it or why it couldn't be made. A
+    /// move that can't be made leaves history, positions and sessions. After `NoMemory` the first
+    /// moves were made, and no more.
     pub fn run(&mut self, moves: &Moves) -> Result<MovedList, NoMemory>
         requires are { All (IsMoveOfCluster self.old.core.placement.backends) moves.now }
         requires count { CanCountRequests self.old.core (length moves.now) }
@@ -148,8 +154,11 @@ impl<B: Backend, S: Store> World<B, S> {
         run(&mut self.state, moves)
     }
 
-    /// What the enabled backends hold, in the order of their numbers: a line for each table with its number of
-    /// rows, and one for each row. Asks each enabled backend for its contents, and stops at the first that fails.
+    /// Asks each enabled backend for its contents and returns them as lines, in the order of
+    /// numbers. A table has a line with its number of rows, and each row has one. No entry is open.
+    ///
+    /// The first backend that fails ends the audit; that counts a fault. The history, the positions
+    /// and the sessions stay in any case.
     pub fn audit(&mut self) -> Result<Text, AuditError>
         requires { is_free self.old.core.history ≡ true }
         ensures text { IfOk result (λ text. B.tells ≡ true → text ≡ audit_text self.old.setup.names self.old.core) }

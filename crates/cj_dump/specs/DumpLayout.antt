@@ -29,7 +29,7 @@ use Rattle.cj_dump.specs.declared.dump.Dump.{Dump}
 abbrev pub last_of : {A : Type 0} → List A → Option A
 last_of xs = slice_get xs (length xs - 1)
 
--- the name stands above the one before it
+-- the name is greater than the one before it, if there is one
 abbrev pub rises_above : Option (List ℕ) → List ℕ → Bool
 rises_above before name = option_map_or (λ last. is_lt (name_cmp last name)) before true
 
@@ -78,6 +78,7 @@ column before = mapped (λ p. record { name = p.0; kind = p.1 }) (λ c. (c.name,
 abbrev pub column_count : Format ℕ
 column_count = such_that (λ n. nat_le 1 n && nat_le n COLUMN_LIMIT) number16
 
+-- the columns of a table, after their number
 abbrev pub columns : FieldLayout (List Column)
 columns = list column_count column
 
@@ -85,7 +86,7 @@ columns = list column_count column
 abbrev pub key : List Column → FieldLayout ℕ
 key cs = field (such_that (λ k. nat_lt k (length cs)) number16)
 
--- a table, which stands above the one before it, with its columns and its key
+-- a table whose name is greater than the one before it, with its columns and its key
 abbrev pub schema : Option (List ℕ) → FieldLayout Schema
 schema before = mapped (λ p. record { table = p.0; columns = p.1.0; key = p.1.1 }) (λ s. (s.table, (s.columns, s.key))) (pair (rising_field free_name (rises_above before)) (followed columns key))
 
@@ -99,14 +100,14 @@ is_of_column cs place v = option_map_or (λ (c : Column). same_kind c.kind (kind
 abbrev pub last_key : ℕ → List (List Value) → Option Value
 last_key k rows = option_and_then (λ last. slice_get last k) (last_of rows)
 
--- the value stands above the key before it
+-- the value is greater than the key before it, if there is one
 abbrev pub key_rises : Option Value → Value → Bool
 key_rises before v = option_map_or (λ last. is_lt (value_cmp last v)) before true
 
 abbrev pub column_value : List Column → ℕ → Format Value
 column_value cs place = such_that (is_of_column cs place) value
 
--- a value of its column; the one at the key's place rises
+-- a value of its column's kind; at the key's place it is greater than the key before
 abbrev pub row_value : Schema → Option Value → List Value → FieldLayout Value
 row_value s last before = rising_field (column_value s.columns (length before)) (λ v. not (length before == s.key) || key_rises last v)
 
@@ -114,9 +115,11 @@ row_value s last before = rising_field (column_value s.columns (length before)) 
 abbrev pub row : Schema → List (List Value) → FieldLayout (List Value)
 row s before = listed (row_value s (last_key s.key before)) (length s.columns)
 
+-- the number of rows of a table
 abbrev pub row_count : Format ℕ
 row_count = such_that (λ n. nat_le n ROW_LIMIT) number64
 
+-- the rows of a table, after their number
 abbrev pub rows : Schema → FieldLayout (List (List Value))
 rows s = list row_count (row s)
 
@@ -130,6 +133,7 @@ abbrev pub rows_in : Option Draft → List (List Value)
 rows_in None = []
 rows_in (Some d) = d.table.rows
 
+-- the transaction of a draft, which is not 0
 abbrev pub transaction : Format ℕ
 transaction = such_that (nat_lt 0) number64
 
@@ -152,22 +156,26 @@ slot before = behind (schema (option_map table_of (last_of before))) (λ s. s.ba
 
 -- ---- dumps
 
+-- a name that the dump covers, greater than the one before
 abbrev pub covered : List (List ℕ) → FieldLayout (List ℕ)
 covered before = rising_field name (rises_above (last_of before))
 
--- none are named where all are covered
+-- the number of names covered, 0 where all tables are
 abbrev pub covers_count : Bool → Format ℕ
 covers_count all = such_that (λ n. not all || n == 0) number64
 
+-- the names that the dump covers, after their number
 abbrev pub covers : Bool → FieldLayout (List (List ℕ))
 covers all = list (covers_count all) covered
 
+-- the tables with their drafts, after their number
 abbrev pub slots : FieldLayout (List Slot)
 slots = list number64 slot
 
 abbrev pub DumpFields : Type 0
 DumpFields = ℕ × (ℕ × (List ℕ × ((Bool × List (List ℕ)) × List Slot)))
 
+-- the fields of a dump in order: position, source, name, names covered, tables
 abbrev pub dump : FieldLayout Dump
 dump = mapped
     (λ p. record { position = p.0; source = p.1.0; name = p.1.1.0; all = p.1.1.1.0.0; covers = p.1.1.1.0.1; db = p.1.1.1.1 })

@@ -26,11 +26,11 @@ use Rattle.cj_dump.specs.Layouts.{Between}
 abbrev pub column_bytes : Column → List ℕ
 column_bytes c = str16 c.name ++ kind_byte c.kind ∷ []
 
--- the table, the columns behind their number, and the key's place
+-- the table, the number of columns, the columns, and the key's place
 abbrev pub schema_bytes : Schema → List ℕ
 schema_bytes s = str16 s.table ++ ((to_be_bytes w16 (length s.columns) ++ flat_map column_bytes s.columns) ++ to_be_bytes w16 s.key)
 
--- rows behind their number
+-- the number of rows, and the rows
 abbrev pub rows_bytes : List (List Value) → List ℕ
 rows_bytes rows = to_be_bytes w64 (length rows) ++ flat_map row_bytes rows
 
@@ -57,6 +57,7 @@ dump_bytes d = to_be_bytes w64 d.position ++ (d.source ∷ (str16 d.name ++ (fla
 abbrev pub HasSmallTransaction : Slot → Type 0
 HasSmallTransaction s = IfSome s.draft (λ (d : Draft). d.tx < 2 ^ 64)
 
+-- a dump that has bytes: names, numbers and tables within their limits, and the names covered in rising order
 pub record IsDump (d : Dump) : Type 0 where
   pub position : d.position < 2 ^ 64
   pub source : d.source < 256
@@ -69,7 +70,7 @@ pub record IsDump (d : Dump) : Type 0 where
   pub few_slots : length d.db < 2 ^ 64
   pub transactions : All HasSmallTransaction d.db
 
--- A dump that may be encoded. The rest of what a dump is holds of the types of its fields.
+-- a dump that may be encoded; the rest of `IsDump` follows from the types of its fields
 pub record CanEncode (d : Dump) : Type 0 where
   pub name : d.name ≢ []
   pub covers : All (λ n. is_name n ≡ true) d.covers
@@ -82,7 +83,7 @@ pub record CanEncode (d : Dump) : Type 0 where
 abbrev pub start_of : List ℕ → Place
 start_of bytes = record { rest = bytes; size = length bytes }
 
--- bytes are left behind a dump
+-- more bytes follow after those of a dump
 pub record HasMore (bytes : List ℕ) (e : DumpError) : Type 0 where
   pub dumped : Dump
   pub next : Place
@@ -91,7 +92,8 @@ pub record HasMore (bytes : List ℕ) (e : DumpError) : Type 0 where
   pub more : next.rest ≢ []
   pub there : e ≡ BadField (offset next)
 
--- The first field that the bytes end in, that isn't allowed or that doesn't rise: all fields before it are those of a dump.
+-- The first field that the bytes end in, that isn't allowed or that doesn't rise: all fields before it are those of a
+-- dump.
 abbrev pub Stops : List ℕ → DumpError → Type 0
 Stops bytes e = dump.stops (start_of bytes) e ⊎ HasMore bytes e
 

@@ -8,16 +8,16 @@ use Rattle.cj_codec.specs.Readings.{Place, offset}
 use Rattle.cj_dump.specs.declared.error.DumpError.{DumpError}
 use Rattle.cj_dump.specs.declared.error.DumpError.TheVariants.{Cut, BadField, Order, NoMemory}
 
--- a value and the place behind it, or what is wrong
+-- a value and the place after it, or what is wrong
 abbrev pub FieldReading : Type 0 → Type 0
 FieldReading A = Result (A × Place) DumpError
 
--- these bytes stand between two places
+-- these bytes are between two places
 pub record Between (bytes : List ℕ) (start next : Place) : Type 0 where
   pub front : start.rest ≡ bytes ++ next.rest
   pub size : next.size ≡ start.size
 
--- the bytes of each value, the values that may stand there, where else the bytes stop and why, and the reading
+-- the bytes of each value, the values that fit, where other bytes stop and why, and what is read
 pub record FieldLayout (A : Type 0) : Type 1 where
   pub bytes : A → List ℕ
   pub fits : A → Type 0
@@ -26,7 +26,8 @@ pub record FieldLayout (A : Type 0) : Type 1 where
 
 -- ---- one field
 
--- The bytes end inside the field; or it isn't allowed; or it is, and doesn't rise. Each has the offset at which the field begins.
+-- The bytes end inside the field; or it isn't allowed; or it is, and doesn't rise. Each has the offset at which the
+-- field begins.
 abbrev pub field_stops : {A : Type 0} → Format A → (A → Bool) → Place → DumpError → Type 0
 field_stops f rises place (Cut n) = f.partial place.rest × (n ≡ offset place)
 field_stops f rises place (BadField n) = (f.reads place.rest ≡ Err faults.BadField) × (n ≡ offset place)
@@ -38,7 +39,7 @@ field_found rises place (Ok x) = if rises x.0 then Ok (x.0, record { rest = x.1;
 field_found rises place (Err faults.Cut) = Err (Cut (offset place))
 field_found rises place (Err faults.BadField) = Err (BadField (offset place))
 
--- a field of a format, which rises above what stands before it
+-- a field of a format, whose value is greater than the one before it
 abbrev pub rising_field : {A : Type 0} → Format A → (A → Bool) → FieldLayout A
 rising_field f rises = record {
   bytes = f.bytes;
@@ -55,7 +56,7 @@ field f = rising_field f (λ x. true)
 abbrev pub known : {A : Type 0} → A → FieldLayout A
 known x = record { bytes = λ y. []; fits = λ y. y ≡ x; stops = λ place e. ⊥; reads = λ place. Ok (x, place) }
 
--- ---- one behind another
+-- ---- one after another
 
 -- a part of the value, and then the whole value in the layout that this part gives
 abbrev pub behind : {K A : Type 0} → FieldLayout K → (A → K) → (K → FieldLayout A) → FieldLayout A
@@ -66,7 +67,7 @@ behind {K} f key g = record {
   reads = λ place. f.reads place >>= λ k. (g k.0).reads k.1;
 }
 
--- the values of another type, each as the one that it stands for
+-- values of another type, each laid out as the value made from it
 abbrev pub mapped : {A B : Type 0} → (A → B) → (B → A) → FieldLayout A → FieldLayout B
 mapped make parts f = record {
   bytes = λ y. f.bytes (parts y);
@@ -82,7 +83,7 @@ followed {A} {B} f g = behind f (λ p. p.0) (λ x. mapped (λ y. (x, y)) (λ p. 
 abbrev pub pair : {A B : Type 0} → FieldLayout A → FieldLayout B → FieldLayout (A × B)
 pair f g = followed f (λ x. g)
 
--- ---- lists: what may stand next goes by the items before it
+-- ---- lists: what the next item may be depends on those before it
 
 abbrev pub listed_bytes : {A : Type 0} → (List A → FieldLayout A) → List A → List A → List ℕ
 listed_bytes item before [] = []
@@ -111,13 +112,13 @@ listed item n = record {
   reads = listed_reads item [] n;
 }
 
--- items behind their number
+-- a number, and as many items
 abbrev pub list : {A : Type 0} → Format ℕ → (List A → FieldLayout A) → FieldLayout (List A)
 list count item = behind (field count) length (listed item)
 
--- ---- what a step of reading comes to
+-- ---- what a step of reading gives
 
--- a value was taken off; or the error is that of the layout, unless memory ran out
+-- a value was read off the front; or the error is that of the layout, unless memory ran out
 abbrev pub TakesOff : {A : Type 0} → FieldLayout A → Place → Place → Result A DumpError → Type 0
 TakesOff layout old new (Ok x) = layout.reads old ≡ Ok (x, new)
 TakesOff layout old new (Err e) = e ≢ NoMemory → layout.reads old ≡ Err e

@@ -10,8 +10,9 @@ use crate::dump::Dump;
 use cj_model::{Db, Name, Slot, has_bit};
 use cj_place::Placement;
 
-/// The first table, in the order of names, that the placement names for the backend and that the dump
-/// doesn't cover. Where the backend hosts every table and the dump doesn't cover all, the empty name.
+/// Returns the first table, by name, that the placement gives to backend `b` and the dump doesn't
+/// cover. `None` means that the dump covers them all. If the backend hosts every table and the dump
+/// doesn't cover every table, the result is the empty name.
 pub fn lacks(d: &Dump, p: &Placement, b: u8) -> Option<Name>
     requires { b < length p.now.names }
     ensures { result ≡ coverage.lacks d.now p.now b }
@@ -42,7 +43,7 @@ fn part(db: Db, p: &Placement, b: u8) -> Db
     Db::from_vec(slots)
 }
 
-/// The dump with those of its tables that the backend hosts, which takes no memory.
+/// Returns the dump with only those of its tables that backend `b` hosts. This takes no memory.
 pub fn cut(d: Dump, p: &Placement, b: u8) -> Dump
     ensures { result ≡ coverage.cut d p.now b }
 {

@@ -34,7 +34,7 @@ impl Part for CoveredPart {
     }
 }
 
-/// The set of the names.
+/// Returns the names as a set.
 fn table_set(alloc: Global, names: &[Name]) -> Result<TableSet, NoMemory>
     ensures { IfOk result (λ set. set ≡ fold (put_by name_cmp) [] names.now) }
 {
@@ -73,8 +73,8 @@ fn take_dump(reader: &mut Reader<'_>, alloc: Global) -> Result<Dump, DumpError>
     })
 }
 
-/// The dump of bytes (docs/FORMATS.md). `Cut`, `BadField` and `Order` come exactly where the bytes are
-/// no dump's, with the offset of the first field that is the reason.
+/// Returns the dump of these bytes (docs/FORMATS.md). `Cut`, `BadField` and `Order` come exactly if
+/// the bytes are no dump's, with the offset of the first field at fault. Offsets count from 0.
 pub fn decode(alloc: Global, bytes: &[u8]) -> Result<Dump, DumpError>
     ensures { Decodes bytes.now result }
 {

@@ -65,7 +65,7 @@ fn legal_slot(slot: &Slot)
     }
 }
 
-/// Shows it for the draft of each slot.
+/// Shows that the transactions of these slots' drafts have 64 bits.
 fn legal_slots(mut slots: &[Slot])
     ensures { All HasSmallTransaction slots.entry.now }
 {
@@ -89,7 +89,8 @@ fn legal(d: &Dump)
     legal_slots(d.db.as_slice());
 }
 
-/// The bytes of a dump (docs/FORMATS.md). `decode` gives the dump back.
+/// Returns the bytes of a dump (docs/FORMATS.md), which `decode` reads as this dump. `NoMemory` is
+/// the only error.
 #[tactic(auto, using(crate::proofs::Writable::storable_writable))]
 pub fn encode(alloc: Global, d: &Dump) -> Result<Vec<u8>, NoMemory>
     requires { CanEncode d.now }

@@ -6,7 +6,7 @@ use cj_codec::CodecError;
 use cj_model::NoMemory;
 use thiserror::Error;
 
-/// Why bytes are no dump. Offsets count from the first byte.
+/// Why bytes were not decoded. Offsets count from 0, the first byte of the dump.
 #[derive(Clone, Copy, Debug, PartialEq, Eq, Error)]
 pub enum DumpError {
     /// The bytes end inside the field that begins at this offset.
@@ -15,7 +15,7 @@ pub enum DumpError {
     /// The field that begins at this offset isn't allowed.
     #[error("the field at byte {0} isn't allowed")]
     BadField(u64),
-    /// The name or the key that begins at this offset doesn't stand above the one before it.
+    /// The name or the key that begins at this offset isn't greater than the one before it.
     #[error("the field at byte {0} doesn't rise")]
     Order(u64),
     #[error("out of memory")]

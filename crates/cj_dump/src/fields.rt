@@ -14,24 +14,28 @@ use cj_codec::Reader;
 use cj_model::{COLUMN_LIMIT, Column, KEYWORDS, Keyword, Kind, Name, ROW_LIMIT};
 use std::cmp::Ordering;
 
+/// Takes a byte.
 pub fn take_byte(reader: &mut Reader<'_>) -> Result<u8, DumpError>
     ensures { TakesOff (field fields.byte) reader.old reader.new result }
 {
     Ok(reader.u8()?)
 }
 
+/// Takes a number of 64 bits.
 pub fn take_u64(reader: &mut Reader<'_>) -> Result<u64, DumpError>
     ensures { TakesOff (field fields.number64) reader.old reader.new result }
 {
     Ok(reader.u64()?)
 }
 
+/// Takes a name.
 pub fn take_name(reader: &mut Reader<'_>) -> Result<Name, DumpError>
     ensures { TakesOff (field fields.name) reader.old reader.new result }
 {
     Ok(reader.name()?)
 }
 
+/// Takes a byte that says yes (1) or no (0). Any other byte is `BadField`.
 pub fn take_flag(reader: &mut Reader<'_>) -> Result<bool, DumpError>
     ensures { TakesOff (field layouts.flag) reader.old reader.new result }
 {
@@ -43,7 +47,7 @@ pub fn take_flag(reader: &mut Reader<'_>) -> Result<bool, DumpError>
     Ok(byte == 1)
 }
 
-/// The number of the names covered, of which there are none where all tables are.
+/// Takes the number of names covered. Any but 0 is `BadField` if the dump covers all tables.
 pub fn take_covers_count(all: bool, reader: &mut Reader<'_>) -> Result<u64, DumpError>
     ensures { TakesOff (field (layouts.covers_count all)) reader.old reader.new result }
 {
@@ -55,7 +59,7 @@ pub fn take_covers_count(all: bool, reader: &mut Reader<'_>) -> Result<u64, Dump
     Ok(count)
 }
 
-/// The number of the columns.
+/// Takes the number of columns. 0 is `BadField`, and so is a number above `COLUMN_LIMIT`.
 pub fn take_column_count(reader: &mut Reader<'_>) -> Result<u16, DumpError>
     ensures { TakesOff (field layouts.column_count) reader.old reader.new result }
 {
@@ -67,7 +71,7 @@ pub fn take_column_count(reader: &mut Reader<'_>) -> Result<u16, DumpError>
     Ok(count)
 }
 
-/// The place of the key among so many columns.
+/// Takes the index of the key column, counted from 0. An index beyond the columns is `BadField`.
 pub fn take_key(columns: &[Column], reader: &mut Reader<'_>) -> Result<u16, DumpError>
     ensures { TakesOff (layouts.key columns.now) reader.old reader.new result }
 {
@@ -79,7 +83,7 @@ pub fn take_key(columns: &[Column], reader: &mut Reader<'_>) -> Result<u16, Dump
     Ok(place)
 }
 
-/// The number of the rows.
+/// Takes the number of rows. A number above `ROW_LIMIT` is `BadField`.
 pub fn take_row_count(reader: &mut Reader<'_>) -> Result<u64, DumpError>
     ensures { TakesOff (field layouts.row_count) reader.old reader.new result }
 {
@@ -91,7 +95,7 @@ pub fn take_row_count(reader: &mut Reader<'_>) -> Result<u64, DumpError>
     Ok(count)
 }
 
-/// The transaction of a draft.
+/// Takes the transaction of a draft. 0 is `BadField`.
 pub fn take_tx(reader: &mut Reader<'_>) -> Result<u64, DumpError>
     ensures { TakesOff (field layouts.transaction) reader.old reader.new result }
 {
@@ -103,6 +107,7 @@ pub fn take_tx(reader: &mut Reader<'_>) -> Result<u64, DumpError>
     Ok(tx)
 }
 
+/// Takes the kind of a column: 1 is an integer, 2 a text. Any other byte is `BadField`.
 pub fn take_kind(reader: &mut Reader<'_>) -> Result<Kind, DumpError>
     ensures { TakesOff (field layouts.kind) reader.old reader.new result }
 {
@@ -140,14 +145,15 @@ fn is_named(columns: &[Column], name: &Name) -> bool
     columns.iter().any(|column| column.name.is(name))
 }
 
-/// Whether a name can be that of a column behind others.
+/// Whether the name is free and no column before has it.
 fn is_new(before: &[Column], name: &Name) -> bool
     ensures { result ≡ layouts.is_new before.now name.now }
 {
     is_free(name) && !is_named(before, name)
 }
 
-/// The name of a column that stands behind others.
+/// Takes the name of a column. A reserved word is `BadField`, and so is the name of a column
+/// before.
 pub fn take_column_name(before: &[Column], reader: &mut Reader<'_>) -> Result<Name, DumpError>
     ensures { TakesOff (field (layouts.column_name before.now)) reader.old reader.new result }
 {
@@ -159,7 +165,7 @@ pub fn take_column_name(before: &[Column], reader: &mut Reader<'_>) -> Result<Na
     Ok(name)
 }
 
-/// Whether a name stands above the one before it.
+/// Whether the name is greater than the last one, if there is one.
 fn rises(last: Option<&Name>, name: &Name) -> bool
     ensures { result ≡ option_map_or (λ before. is_lt (name_cmp before name.now)) (option_copied last.entry) true }
 {
@@ -169,7 +175,7 @@ fn rises(last: Option<&Name>, name: &Name) -> bool
     }
 }
 
-/// A name that is covered.
+/// Takes a name of the set that the dump covers. A name not above the last one is `Order`.
 pub fn take_covered(last: Option<&Name>, reader: &mut Reader<'_>) -> Result<Name, DumpError>
     ensures { TakesOff (rising_field fields.name (layouts.rises_above (option_copied last.entry))) reader.old reader.new result }
 {
@@ -181,7 +187,8 @@ pub fn take_covered(last: Option<&Name>, reader: &mut Reader<'_>) -> Result<Name
     Ok(name)
 }
 
-/// The name of a table.
+/// Takes the name of a table. A reserved word is `BadField`, and a name not above the last one is
+/// `Order`.
 pub fn take_table(last: Option<&Name>, reader: &mut Reader<'_>) -> Result<Name, DumpError>
     ensures { TakesOff (rising_field layouts.free_name (layouts.rises_above (option_copied last.entry))) reader.old reader.new result }
 {

@@ -2,7 +2,7 @@
 
 ghost use Rattle.cj_dump.specs.Dumps.{BytesHaveOneReading, WrittenReadsBack};
 
-/// What is written of a dump is read as this dump.
+/// If the bytes of a dump are decoded, the result is that dump, unless memory ran out.
 pub fn written_reads_back()
     ensures { WrittenReadsBack }
 {}

@@ -1,4 +1,4 @@
-//! Parts of a dump that stand there several times.
+//! Parts that a dump has several times.
 
 ghost use Rattle.cj_dump.specs.Layouts.{TakesOff, FieldLayout, listed};
 ghost use Rattle.std.specs.Prelude.{List};
@@ -8,14 +8,14 @@ use cj_codec::Reader;
 use cj_model::ListOf;
 use std::alloc::Global;
 
-/// A part of a dump that stands there several times, one after another. What may stand next goes by
-/// those before it.
+/// A kind of part that a dump has several times, one after another. What the next one may be
+/// depends on those before it.
 pub trait Part {
     type Item: Drop;
 
     ghost layout: { Self → List Self.Item → FieldLayout Self.Item };
 
-    /// Takes the next one off the reader, which is of no more use after an error.
+    /// Takes the next part off the reader, which is of no more use after an error.
     fn take(
         &self,
         before: &[Self::Item],
@@ -25,7 +25,7 @@ pub trait Part {
         ensures { TakesOff (layout self.now before.now) reader.old reader.new result };
 }
 
-/// Takes so many of them.
+/// Takes `count` parts off the reader, which is of no more use after an error.
 pub fn take_parts<P: Part>(
     part: &P,
     count: u64,

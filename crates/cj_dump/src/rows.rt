@@ -45,7 +45,7 @@ fn is_of_column(columns: &[Column], place: usize, value: &Value) -> bool
     }
 }
 
-/// Whether a key stands above the one before it.
+/// Whether the key is greater than the last one, if there is one.
 fn key_rises(last: Option<&Value>, value: &Value) -> bool
     ensures { result ≡ layouts.key_rises (option_copied last.entry) value.now }
 {
@@ -108,7 +108,7 @@ impl<'a> Part for RowPart<'a> {
     }
 }
 
-/// Takes rows of a schema, in rising key.
+/// Takes the rows of a table, by rising key.
 pub fn take_rows(schema: &Schema, reader: &mut Reader<'_>, alloc: Global) -> Result<Rows, DumpError>
     ensures { TakesOff (layouts.rows schema.now) reader.old reader.new result }
 {

@@ -39,7 +39,7 @@ fn take_columns(reader: &mut Reader<'_>, alloc: Global) -> Result<Columns, DumpE
     take_parts(&ColumnPart, u64::from(count), reader, alloc)
 }
 
-/// Takes a schema, whose table stands above the one before it.
+/// Takes the schema of a table, whose name is greater than the one before.
 pub fn take_schema(
     before: Option<&Name>,
     reader: &mut Reader<'_>,

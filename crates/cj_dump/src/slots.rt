@@ -71,7 +71,7 @@ impl Part for SlotPart {
     }
 }
 
-/// Takes the tables, in rising name.
+/// Takes the tables of a dump with their drafts, by rising name.
 pub fn take_slots(reader: &mut Reader<'_>, alloc: Global) -> Result<Db, DumpError>
     ensures { TakesOff layouts.slots reader.old reader.new result }
 {

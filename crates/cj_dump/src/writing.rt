@@ -1,4 +1,4 @@
-//! What stands in a dump, at the end of bytes.
+//! Appending the parts of a dump to bytes.
 
 ghost use Rattle.std.specs.Prelude.{◌≡◌, ◌++◌, ℕ, List, All, OnOk};
 ghost use Rattle.std.specs.List.{flat_map};
@@ -11,14 +11,14 @@ ghost use Rattle.cj_dump.specs.Writable.{HasFewColumns, IsWritableDraft, IsWrita
 use cj_codec::{put_str16, put_u8, put_u16, put_u64, put_value};
 use cj_model::{Column, Draft, Kind, ListOf, Name, NoMemory, Rows, Schema, Slot, Value};
 
-/// What stands in a dump several times.
+/// A value that a dump has several times, one after another.
 pub trait Written {
     ghost bytes: { Self → List ℕ };
 
-    /// Whether its lengths fit their fields.
+    /// Whether the lengths in the value fit their fields.
     ghost writable: { Self → Type 0 };
 
-    /// Adds its bytes.
+    /// Appends the bytes of the value. Out of memory, `out` may have some of them.
     fn put(&self, out: &mut Vec<u8>) -> Result<(), NoMemory>
         requires { writable self.now }
         ensures { OnOk result (out.new.items ≡ out.old.items ++ bytes self.now) };

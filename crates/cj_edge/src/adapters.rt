@@ -1,9 +1,9 @@
-//! The standard streams as a source and a sink. They tell of bytes what std tells, and count each error.
+//! The standard streams as a source and a sink. They tell of their bytes what std tells, and count each error.
 
 use cj_outside::{Failed, OutError, Sink, Source};
 use std::io::{Read, Write};
 
-/// A reader as a source. An interrupted read is an error too.
+/// A reader as a source. An interrupted read counts as an error.
 #[derive(Drop)]
 pub struct StdSource<R> {
     inner: R,
@@ -11,6 +11,7 @@ pub struct StdSource<R> {
 }
 
 impl<R> StdSource<R> {
+    /// Makes a source of the reader, which has counted no fault.
     pub fn new(inner: R) -> Self {
         StdSource { inner, faults: 0 }
     }
@@ -32,7 +33,7 @@ impl<R: Read> Source for StdSource<R> {
     }
 }
 
-/// A writer as a sink. That it takes nothing of a piece is an error too.
+/// A writer as a sink. A writer that takes nothing of a piece counts as an error.
 #[derive(Drop)]
 pub struct StdSink<W> {
     inner: W,
@@ -40,6 +41,7 @@ pub struct StdSink<W> {
 }
 
 impl<W> StdSink<W> {
+    /// Makes a sink of the writer, which has counted no fault.
     pub fn new(inner: W) -> Self {
         StdSink { inner, faults: 0 }
     }

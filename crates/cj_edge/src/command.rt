@@ -23,7 +23,7 @@ impl<T: Drop> From<AllocFailed<T>> for WordsError {
     }
 }
 
-/// The words after the program's name.
+/// Returns the words after the program's name. Each must be UTF-8.
 pub fn words(rt: &(impl Env + AllocGlobal)) -> Result<Vec<String>, WordsError> {
     let args = match env::args(rt) {
         Ok(args) => args,

@@ -10,11 +10,11 @@ use std::fs::File;
 use std::io::{self, ErrorKind};
 use std::rt::Files;
 
-/// A file as a store. It tells nothing of its bytes or of stops, and counts each error of the system, an interrupted
-/// read among them.
+/// A file as a store. It tells nothing of its bytes or of crashes. It counts each error of the
+/// system, an interrupted read among them.
 ///
-/// A length above `MOST` is an error too. A file that is written is locked as long as the store stands, against
-/// programs that lock it too.
+/// A length above `MOST` is an error too. A file that is written is locked as long as the store is
+/// open, against programs that lock it too.
 #[derive(Drop)]
 pub struct FileStore<R> {
     rt: R,
@@ -24,32 +24,34 @@ pub struct FileStore<R> {
 }
 
 impl<R: Files<File = File>> FileStore<R> {
-    /// The file at `path`, to be read and written.
+    /// Opens the file at `path`, to read and write it.
     ///
-    /// Where there is none it is a store without bytes, and the first write makes the file: a write fails where another
-    /// program has made it since. Where it can't be opened, or another program has locked it, each call fails.
+    /// If there is no file, the store has no bytes, and the first write makes the file. That write
+    /// fails if another program has made the file since. If the file can't be opened, or another
+    /// program has locked it, each call fails.
     pub fn open(rt: R, path: String) -> FileStore<R> {
         let opened = LockedFile::open(&rt, path.as_str()).map(Standing::Written);
         FileStore::new(rt, path, Standing::of_made_later(opened))
     }
 
-    /// The file at `path`, to be read alone: each write fails. Where it can't be opened, or is not there, each call
-    /// fails.
+    /// Opens the file at `path`, to read it alone: each write fails. If the file can't be opened or
+    /// isn't there, each call fails.
     pub fn open_to_read(rt: R, path: String) -> FileStore<R> {
         let opened = File::open(&rt, path.as_str()).map(Standing::Read);
         FileStore::new(rt, path, Standing::of(opened))
     }
 
-    /// The file at `path`, to be read, whether or not another program has locked it or it may be written.
+    /// Opens the file at `path`, to read it, even if another program has locked it or it may not be
+    /// written.
     ///
-    /// Only a write that would change it opens it as `open` does, and fails where that fails. Where there is none, the
-    /// first write makes it.
+    /// Only a write that would change the file opens it as `open` does, and fails where that fails.
+    /// If there is no file, the first write makes it.
     pub fn open_to_list(rt: R, path: String) -> FileStore<R> {
         let opened = File::open(&rt, path.as_str()).map(Standing::Listed);
         FileStore::new(rt, path, Standing::of_made_later(opened))
     }
 
-    /// No file: each call fails, and none touches a file.
+    /// Makes a store without a file: each call fails, and none touches a file.
     pub fn none(rt: R, path: String) -> FileStore<R> {
         FileStore::new(rt, path, Standing::Refused(ErrorKind::Unsupported.into()))
     }
@@ -63,8 +65,8 @@ impl<R: Files<File = File>> FileStore<R> {
         }
     }
 
-    /// Opens the file to be written, or makes it, where these bytes at `at` would change it and it isn't open so.
-    /// Answers whether they have to be written.
+    /// Opens the file for writing, or makes it, if these bytes at `at` would change it and it isn't
+    /// open for that yet. Returns whether they have to be written.
     fn prepare(&mut self, at: u64, bytes: &[u8]) -> io::Result<bool>
         ensures faults { self.new.faults ≡ self.old.faults }
     {

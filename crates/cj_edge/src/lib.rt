@@ -1,5 +1,10 @@
-//! What a program takes from its host: the standard streams as a source and sinks, files as stores, the clock, and the
+//! What a program takes from its host: standard streams as a source and sinks, files as stores, the clock, and the
 //! words of its command.
+//!
+//! Promised: streams tell of their bytes what std tells, and count each error. A file tells nothing of its bytes.
+//! What the operating system does is trusted, and tried by `checks/`.
+//! To change: `file_store.rt` and `standing.rt` concern files, `patient.rt` and `adapters.rt` the streams.
+//! The crate has no definitions of its own. Its proofs are the invariants of loops in `proofs/patient`.
 #![tactic(auto)]
 
 mod adapters;

@@ -1,17 +1,17 @@
-//! Streams that are asked again where a call came too early.
+//! Streams that are asked again if a call came too early.
 
 use std::io::{self, ErrorKind, Read, Write};
 use std::thread;
 use std::time::{Clock, Duration};
 
-/// So long a stream that isn't ready is left alone, in milliseconds.
+/// How long a stream that isn't ready is left alone, in milliseconds.
 const PAUSE: u64 = 5;
 
-/// A reader or a writer that is asked again where a signal interrupted the call, and after a pause where the stream
-/// was not ready.
+/// A reader or a writer that is asked again after an interrupted call, and after a pause if the
+/// stream wasn't ready.
 ///
-/// So a stream that doesn't wait by itself, as one that another program made non-blocking, serves as any other. It
-/// waits for as long as the stream is not ready.
+/// So a stream that another program made non-blocking serves like any other. A call waits as long
+/// as the stream isn't ready.
 #[derive(Drop)]
 pub struct Patient<T, C> {
     inner: T,
@@ -19,12 +19,13 @@ pub struct Patient<T, C> {
 }
 
 impl<T, C> Patient<T, C> {
+    /// Makes a patient stream. The clock is needed for the pauses.
     pub fn new(inner: T, clock: C) -> Self {
         Patient { inner, clock }
     }
 }
 
-/// Whether the call may be made again now. Where the stream was not ready, that is after a pause.
+/// Whether the call may be made again. If the stream wasn't ready, this waits for a pause first.
 fn may_ask_again(clock: &impl Clock, error: io::Error) -> bool {
     match error.kind() {
         ErrorKind::Interrupted => true,

@@ -8,12 +8,12 @@ use std::rt::Files;
 /// The numbers of the standard streams are those below this one.
 const FIRST_OTHER: i32 = 3;
 
-/// Opens `/dev/null` in place of each standard stream that is closed, for the whole life of the program. It is called
-/// before a file is opened, since a file takes the least number that is free, and would be read and written as that
-/// stream.
+/// Opens `/dev/null` in place of each standard stream that is closed, for the whole life of the
+/// program. Call it before any file is opened. A file takes the least free number, and would be
+/// read and written as that stream.
 ///
-/// A stream that was closed then reads as empty, and what is written to it goes nowhere. On an error some of them are
-/// still closed, so no file may be opened.
+/// A stream that was closed then reads as empty, and what is written to it is lost. After an error
+/// some streams may still be closed, so no file may be opened.
 pub fn fill_standard_streams(rt: &impl Files<File = File>) -> io::Result<()> {
     for _ in 0..=FIRST_OTHER {
         let file = OpenOptions::new()

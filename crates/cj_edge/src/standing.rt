@@ -1,4 +1,4 @@
-//! What stands at the path of a store.
+//! What is at the path of a store.
 
 ghost use Rattle.std.specs.Io.{ReadsAtMost};
 
@@ -9,24 +9,26 @@ use std::os::unix::fs::FileExt;
 use std::path::Path;
 use std::rt::Files;
 
-/// Bytes to be written are looked for in the file only where they are at most so many.
+/// The most bytes of a write that are first looked for in the file.
 const LOOKED_FOR: usize = 64;
 
-/// What stands at the path of a store.
+/// What is at the path of a store.
 #[derive(Drop)]
 pub enum Standing {
+    /// A file to be read and written.
     Written(LockedFile),
     /// A file to be read alone.
     Read(File),
-    /// A file to be read, which is opened to be written only where a write would change it.
+    /// A file to be read, which is opened for writing only if a write would change it.
     Listed(File),
     /// No file yet. The first write makes it.
     Missing,
-    /// A file that can't be opened, or none that may be.
+    /// A file that can't be opened, or a store that may have none. Each call fails with this error.
     Refused(io::Error),
 }
 
 impl Standing {
+    /// Returns what was opened. An error is one of each later call.
     pub fn of(opened: io::Result<Standing>) -> Standing {
         match opened {
             Ok(standing) => standing,
@@ -34,7 +36,8 @@ impl Standing {
         }
     }
 
-    /// As `of`, but a file that isn't there is made by the first write.
+    /// Returns what was opened. A file that isn't there is made by the first write, and any other
+    /// error is one of each later call.
     pub fn of_made_later(opened: io::Result<Standing>) -> Standing {
         match opened {
             Err(error) if error.kind() == ErrorKind::NotFound => Standing::Missing,
@@ -51,6 +54,7 @@ impl Standing {
         }
     }
 
+    /// Returns the length of the file, or 0 if there is none yet.
     pub fn len(&self) -> io::Result<u64> {
         match self.file()? {
             Some(file) => len_of(file),
@@ -58,16 +62,18 @@ impl Standing {
         }
     }
 
+    /// Reads bytes at `at` and returns how many; none from `MOST` on, or if there is no file yet.
     pub fn read_at(&self, at: u64, buf: &mut [u8]) -> io::Result<usize>
         ensures bound { ReadsAtMost result buf.new }
     {
         match self.file()? {
             Some(file) if at < MOST => file.read_at(buf, at),
-            // No byte of a store stands there.
+            // No byte of a store is there.
             _ => Ok(0),
         }
     }
 
+    /// Brings what was written to the disk.
     pub fn sync(&self) -> io::Result<()> {
         match self.file()? {
             Some(file) => file.sync_data(),
@@ -76,22 +82,24 @@ impl Standing {
     }
 }
 
-/// A file that is read and written, and locked for as long as it is open: where another program has locked it, it isn't
-/// opened.
+/// A file that is read and written, and locked as long as it is open. A file that another program
+/// has locked isn't opened.
 #[derive(Drop)]
 pub struct LockedFile {
     file: File,
-    /// Whether the folder is known to keep the file's name. That of a file without bytes may have been lost in a stop.
+    /// Whether the folder is known to keep the file's name. A crash may have lost that of a file
+    /// without bytes.
     is_kept: bool,
 }
 
 impl LockedFile {
+    /// Opens and locks the file.
     pub fn open(rt: &impl Files<File = File>, path: &str) -> io::Result<LockedFile> {
         let file = OpenOptions::new().read(true).write(true).open(rt, path)?;
         LockedFile::lock(file)
     }
 
-    /// Makes the file, where nothing may stand.
+    /// Makes and locks the file. An error if something is at the path already.
     pub fn make(rt: &impl Files<File = File>, path: &str) -> io::Result<LockedFile> {
         let file = OpenOptions::new()
             .read(true)
@@ -107,7 +115,8 @@ impl LockedFile {
         Ok(LockedFile { file, is_kept })
     }
 
-    /// Writes the bytes; before the first of a file, the folder is made to keep its name.
+    /// Writes the bytes at `at`. Before the first bytes of a file, the folder is made to keep the
+    /// file's name.
     pub fn write_at(
         &mut self,
         rt: &impl Files<File = File>,
@@ -123,7 +132,7 @@ impl LockedFile {
     }
 }
 
-/// The length of a regular file. Of anything else, as a pipe or a folder, none is known.
+/// Returns the length of a regular file. Anything else, as a pipe or a folder, is an error.
 fn len_of(file: &File) -> io::Result<u64> {
     let found = file.metadata()?;
     if !found.is_file() {
@@ -132,7 +141,8 @@ fn len_of(file: &File) -> io::Result<u64> {
     Ok(found.len())
 }
 
-/// Whether these bytes are found in the file at `at`. They aren't where they are more than `LOOKED_FOR`.
+/// Whether the file has these bytes at `at`. More bytes than `LOOKED_FOR` are not looked for, and
+/// the answer is no.
 pub fn has_bytes_at(file: &File, at: u64, bytes: &[u8]) -> bool {
     let mut buf = [0u8; LOOKED_FOR];
     match buf.get_mut(..bytes.len()) {

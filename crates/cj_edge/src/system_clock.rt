@@ -5,13 +5,15 @@ ghost use Rattle.std.specs.Prelude.{None};
 use cj_outside::Clock;
 use std::time;
 
-/// The system's clock, which doesn't tell its moment. Where it can't be read, or stands before 1970, it shows 0.
+/// The system's clock, which doesn't tell contracts its moment. A clock that can't be read, or is
+/// before 1970, shows 0.
 #[derive(Drop)]
 pub struct SystemClock<R> {
     rt: R,
 }
 
 impl<R> SystemClock<R> {
+    /// Makes a clock that reads the host's.
     pub fn new(rt: R) -> SystemClock<R> {
         SystemClock { rt }
     }

@@ -11,7 +11,7 @@ use Rattle.cj_log.specs.declared.item.LogMarker.{LogMarker}
 use Rattle.cj_log.specs.declared.item.LogItem.{LogItem}
 use Rattle.cj_log.specs.declared.item.LogItem.TheVariants.{Entry, Marker}
 
--- number, session, transaction, user and text
+-- an entry's number, session, transaction, user and text
 abbrev pub entry_text : LogEntry → List ℕ
 entry_text e = words (decimal e.number ∷ (codes "session=" ++ decimal e.session) ∷ (codes "tx=" ++ decimal e.tx) ∷ (codes "user=" ++ e.user) ∷ e.text ∷ [])
 
@@ -20,18 +20,19 @@ abbrev pub backend_text : List (List ℕ) → Option ℕ → List ℕ
 backend_text names None = codes "-"
 backend_text names (Some b) = unwrap_or (slice_get names b) (decimal b)
 
--- the marker's name, how many entries stand before it, and the backend whose dump it names
+-- the marker's name, how many entries come before it, and the backend whose dump it names
 abbrev pub marker_text : List (List ℕ) → LogMarker → List ℕ
 marker_text names m = words (codes "marker" ∷ m.name ∷ codes "after" ∷ decimal m.after ∷ (codes "backend=" ++ backend_text names m.b) ∷ [])
 
+-- the text of an item, where backends have these names
 abbrev pub log_item_text : List (List ℕ) → LogItem → List ℕ
 log_item_text names (Entry e) = entry_text e
 log_item_text names (Marker m) = marker_text names m
 
--- a line of an item, where backends go by these names
+-- the line of an item, where backends have these names
 abbrev pub item_line : List (List ℕ) → LogItem → List ℕ
 item_line names item = with_line_feed (log_item_text names item)
 
--- a line for each item
+-- a line for each item, in order
 abbrev pub listing : List (List ℕ) → List LogItem → List ℕ
 listing names items = flat_map (item_line names) items

@@ -54,7 +54,8 @@ fn item_words(alloc: Global, names: &Names, item: &LogItem) -> Result<Vec<u8>, N
     }
 }
 
-/// The line of an item, with its LF.
+/// Returns the line of an item, with its LF. `names` are those of the backends. `NoMemory` is the
+/// only error.
 pub fn make_line(alloc: Global, names: &Names, item: &LogItem) -> Result<Vec<u8>, NoMemory>
     ensures { IfOk result (λ line. line.items ≡ item_line names.now item.now) }
 {

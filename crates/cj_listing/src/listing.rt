@@ -28,7 +28,8 @@ fn write_item<O: Sink>(
 
 /// Writes the lines of the items, in order. It needs memory for one line at a time.
 ///
-/// On an error the sink holds a front of the lines, less than all of them.
+/// After an error the sink has a part of the lines, less than all of them. `Failed` is a fault that
+/// the sink counted.
 #[tactic(auto, using(crate::proofs::Sending::sent_line))]
 pub fn write_listing<O: Sink>(
     alloc: Global,

@@ -1,4 +1,4 @@
--- What arming a backend makes of the cells, and which move arms one.
+-- What arming a backend changes of the cells, and which move arms one.
 use Rattle.std.specs.Prelude.{◌≡◌, ℕ, Bool, true, false, List, ◌&&◌, if◌then◌else◌, map, Ok, Err}
 use Rattle.std.specs.declared.option.Option.{Option}
 use Rattle.std.specs.declared.option.Option.TheVariants.{None, Some}
@@ -12,7 +12,7 @@ use Rattle.cj_replica.specs.Cells.{CellState}
 use Rattle.cj_state.specs.Worlds.{WorldState}
 use Rattle.cj_state.specs.ArmedCells.{armed_at, armings_after, armings_of}
 
--- what the move to arm a backend makes of the cells, by whatever stands for a cell that isn't there
+-- the move `Arm` arms the cell of its backend, whatever is taken for a cell that isn't there
 abbrev pub ArmsCell : Bool → List CellState → Move → List CellState → Type 0
 ArmsCell can old (Arm b) new = (d : CellState) → new ≡ armed_at can old b d
 ArmsCell can old (Open user) new = Unit {0}
@@ -33,7 +33,7 @@ ArmsCell can old (Load b name) new = Unit {0}
 abbrev pub each_arming : List CellState → List Arming
 each_arming cells = map (λ (x : CellState). x.arming) cells
 
--- what a move gave says that it armed its backend
+-- the result of a move says that its backend was armed
 abbrev pub tells_armed : MoveResult → Bool
 tells_armed (Ok (moved.Session n)) = false
 tells_armed (Ok moved.Closed) = false
@@ -56,7 +56,7 @@ tells_armed (Ok (moved.Replayed n d)) = false
 tells_armed (Err (errors.NotNow why)) = false
 tells_armed (Err errors.NoMemory) = false
 
--- the backend that a move armed, where backends can be
+-- the backend that a move armed, if it armed one and backends can be armed
 abbrev pub armed_by : Bool → Move → MoveResult → Option ℕ
 armed_by can (Open user) g = None
 armed_by can (Close s) g = None
@@ -73,6 +73,6 @@ armed_by can (Mark name) g = None
 armed_by can (Dump b name) g = None
 armed_by can (Load b name) g = None
 
--- The backend that the move armed was so once more, and no other was armed.
+-- the backend that the move armed was armed once more, and no other was
 abbrev pub HasArmings : Bool → WorldState → WorldState → Move → MoveResult → Type 0
 HasArmings can old new m g = armings_of new.cells ≡ armings_after (armings_of old.cells) (armed_by can m g)

@@ -1,9 +1,11 @@
--- What moves make of the result cache: the moves look nothing up in it and keep nothing, and the entries that they schedule drop what they touch.
+-- What moves change of the result cache: they neither look up nor keep answers, and entries drop the answers that
+-- they invalidate.
 use Rattle.std.specs.Prelude.{◌≡◌}
 use Rattle.cj_cluster.specs.declared.moves.Move.{Move}
 use Rattle.cj_cluster.specs.declared.moves.Move.TheVariants.{Open, Close, Schedule, Abort, Apply, End, Read, Arm, Disable, Replay, Enable, Mark, Dump, Load}
 use Rattle.cj_state.specs.Worlds.{WorldState, CacheFollowsLog}
 
+-- entries change the result cache as the log does, and other moves leave it
 abbrev pub HasCacheAfter : WorldState → WorldState → Move → Type 0
 HasCacheAfter old new (Open user) = new.cache ≡ old.cache
 HasCacheAfter old new (Close s) = new.cache ≡ old.cache

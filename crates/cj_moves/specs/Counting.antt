@@ -1,4 +1,4 @@
--- The faults that backends have counted, and which move says that one was.
+-- The faults that backends have counted, and which move tells of a fault.
 use Rattle.std.specs.Prelude.{◌≡◌, ℕ, Bool, true, false, ◌||◌, ◌==◌, if◌then◌else◌, Ok, Err}
 use Rattle.std.specs.declared.option.Option.{Option}
 use Rattle.std.specs.declared.option.Option.TheVariants.{None, Some}
@@ -12,7 +12,7 @@ use Rattle.cj_cluster.specs.Moves.Moves.{MoveResult}
 use Rattle.cj_state.specs.Worlds.{WorldState}
 use Rattle.cj_state.specs.Faults.{did_fail, faults_after, faults_of}
 
--- of a move that asks a backend: what it gave says that the backend failed
+-- the result of a move that asks a backend says that the backend failed
 abbrev pub tells_fault : MoveResult → Bool
 tells_fault (Ok (moved.Session n)) = false
 tells_fault (Ok moved.Closed) = false
@@ -35,7 +35,7 @@ tells_fault (Ok (moved.Replayed n d)) = did_fail d
 tells_fault (Err (errors.NotNow why)) = false
 tells_fault (Err errors.NoMemory) = false
 
--- the backend that a move says failed, which is the one that it asks
+-- the backend that a move says failed, if it says so: the one that it asks
 abbrev pub blamed : Move → MoveResult → Option ℕ
 blamed (Open user) g = None
 blamed (Close s) g = None
@@ -52,16 +52,16 @@ blamed (Mark name) g = None
 blamed (Dump b name) g = if tells_fault g then Some b else None
 blamed (Load b name) g = if tells_fault g then Some b else None
 
--- The backend that the move says failed has counted one fault more, and no other count has changed.
+-- the backend that the move says failed has counted one fault more, and no other count has changed
 abbrev pub HasCauses : WorldState → WorldState → Move → MoveResult → Type 0
 HasCauses old new m g = faults_of new.cells ≡ faults_after (faults_of old.cells) (blamed m g)
 
--- a refusal says that the log's store failed
+-- the result is a refusal which says that the log's store failed
 abbrev pub answers_log_fault : MoveResult → Bool
 answers_log_fault (Ok (moved.Refused r)) = r.code == LOG_FAULT
 answers_log_fault _ = false
 
--- the move says that the log's store failed, which an entry or a marker is written to
+-- the result of a move that writes an entry or a marker says that the log's store failed
 abbrev pub tells_log_fault : Move → MoveResult → Bool
 tells_log_fault (Open user) g = false
 tells_log_fault (Close s) g = false
@@ -78,11 +78,11 @@ tells_log_fault (Mark name) g = answers_log_fault g
 tells_log_fault (Dump b name) g = false
 tells_log_fault (Load b name) g = false
 
--- one fault more where one is told
+-- the number of faults, with one more if one is told
 abbrev pub log_faults_after : ℕ → Bool → ℕ
 log_faults_after faults false = faults
 log_faults_after faults true = next faults
 
--- The log's store has counted one fault more where the move says that it failed, and none else.
+-- the log's store has counted one fault more if the move says that it failed, and else none
 abbrev pub HasLogCauses : WorldState → WorldState → Move → MoveResult → Type 0
 HasLogCauses old new m g = new.recovery_log.faults ≡ log_faults_after old.recovery_log.faults (tells_log_fault m g)

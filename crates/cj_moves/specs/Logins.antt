@@ -14,7 +14,8 @@ use Rattle.cj_state.specs.CalledLogins.{CallsUnder, LogsInToTake, MayCallUnder, 
 
 -- ---- moves
 
--- What a move gave says how backend b was called, for a user who has this login there. A refusal may be the backend's own, or come where it was not asked.
+-- the result of a move says how backend b was called, for a user who has this login there; after a refusal it was
+-- called or not
 abbrev pub LogsInByMove : ℕ → List ℕ → MoveResult → List (Option (List ℕ)) → List (Option (List ℕ)) → Type 0
 LogsInByMove b login (Ok (moved.Session n)) old new = new ≡ old
 LogsInByMove b login (Ok moved.Closed) old new = new ≡ old
@@ -41,7 +42,8 @@ LogsInByMove b login (Err errors.NoMemory) old new = new ≡ old
 abbrev pub login_to_ask : WorldState → ℕ → ℕ → List ℕ
 login_to_ask w s b = login_of (accounts_of w) (asked_for w.core.sessions s None) b
 
--- A backend that takes an entry is called under the login of the entry's user, and one that is asked under the login of the session's user. No other move calls one.
+-- a backend carries out an entry under the login of the entry's user, answers a query under that of the session's
+-- user, and is called by no other move
 abbrev pub HasLogins : WorldState → WorldState → Move → MoveResult → Type 0
 HasLogins old new (Open user) g = logins_of new.cells ≡ logins_of old.cells
 HasLogins old new (Close s) g = logins_of new.cells ≡ logins_of old.cells

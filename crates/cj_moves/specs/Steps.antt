@@ -6,7 +6,7 @@ use Rattle.cj_model.specs.declared.limits.TheConstants.{REQUEST_LIMIT}
 use Rattle.cj_cluster.specs.Moves.Cores.{Core, session_at}
 use Rattle.cj_cluster.specs.Moves.Runs.{IsMoveOfCluster}
 
--- the session of the move can make one request more
+-- the session of the move, if it has one, can make one request more
 abbrev pub CanAsk : Core → Move → Type 0
 CanAsk c (Open user) = Unit {0}
 CanAsk c (Close s) = Unit {0}

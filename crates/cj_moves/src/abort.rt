@@ -1,4 +1,4 @@
-//! An orphan is ended.
+//! The move `Abort`: the administrator ends an orphan.
 
 ghost use Rattle.std.specs.Prelude.{◌≡◌, ◌<◌, ◌≤◌, length, IsErrOf, None, Ok};
 ghost use Rattle.cj_cluster.specs.Moves.Moves as moves;
@@ -14,6 +14,8 @@ use cj_model::{LOG_FAULT, Refusal};
 use cj_outside::Store;
 use cj_state::State;
 
+/// Returns why the administrator can't end the transaction now, or `None`. It is no orphan, or an
+/// entry is open.
 pub fn not_now_abort<B: Backend, S: Store>(state: &State<B, S>, tx: u64) -> Option<Why>
     ensures { result ≡ moves.not_now state.now.core (Move.Abort tx) }
 {
@@ -26,6 +28,11 @@ pub fn not_now_abort<B: Backend, S: Store>(state: &State<B, S>, tx: u64) -> Opti
     None
 }
 
+/// Schedules the administrator's end of an orphan, for the user who began it, and gives the entry's
+/// number.
+///
+/// `Refused` says that the history has no room, or that the log's store failed, which is then an
+/// event of the history. `NoMemory` leaves all but maybe the log's bytes as it was.
 pub fn abort<B: Backend, S: Store>(state: &mut State<B, S>, tx: u64) -> Result<Moved, MoveError>
     requires { not_now state.old.core (Move.Abort tx) ≡ None }
     ensures moves { AbortsOrphan state.old.core tx result state.new.core }

@@ -1,4 +1,4 @@
-//! A move, by its kind.
+//! Any move, by its kind.
 
 ghost use Rattle.std.specs.Prelude.{◌≡◌, ◌<◌, ◌≤◌, IsErrOf, Some, None, Ok};
 ghost use Rattle.cj_cluster.specs.Moves.Moves as moves;
@@ -29,8 +29,8 @@ use cj_cluster::{Move, MoveError, Moved, Why};
 use cj_outside::Store;
 use cj_state::State;
 
-/// The first reason, in the order of their tests. That another read is open, and that the
-/// backend does not serve it, is found where the read is made.
+/// Returns the first reason why the move can't be made now, in the order of the tests, or `None`.
+/// `read` itself finds that another read is open, or that the backend doesn't serve the query.
 fn why_not_now<B: Backend, S: Store>(state: &State<B, S>, m: &Move) -> Option<Why>
     requires { IsMet state.now.core m.now }
     ensures { result ≡ moves.not_now state.now.core m.now }
@@ -52,8 +52,12 @@ fn why_not_now<B: Backend, S: Store>(state: &State<B, S>, m: &Move) -> Option<Wh
     }
 }
 
-/// Makes a move, or says why it can't be made now. Want of memory changes nothing but maybe the log's bytes behind its items; where it
-/// is the backend's that takes an entry, the move says so and the backend is out.
+/// Makes a move and gives what came of it, or says why the move can't be made now. The move is one
+/// of this cluster, and its session can make one more request.
+///
+/// `NotNow` leaves the history, the positions and the sessions as they were. `NoMemory` leaves all
+/// but maybe the log's bytes. A backend that runs out of memory in an entry is out; the move then
+/// gives `Starved` and no error.
 pub fn step<B: Backend, S: Store>(state: &mut State<B, S>, m: Move) -> Result<Moved, MoveError>
     requires { IsMet state.old.core m }
     ensures moves { MovesTo B.tells state.old.core m result state.new.core }

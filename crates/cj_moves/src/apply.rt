@@ -1,4 +1,4 @@
-//! An enabled backend takes the open entry.
+//! The move `Apply`: an enabled backend carries out the open entry.
 
 ghost use Rattle.std.specs.Prelude.{◌≡◌, ◌<◌, ◌≤◌, length, Some, None, Ok};
 ghost use Rattle.cj_cluster.specs.Moves.Moves as moves;
@@ -13,6 +13,8 @@ use cj_cluster::{Move, Moved, Reason, Why};
 use cj_outside::Store;
 use cj_state::State;
 
+/// Returns why backend `b` can't carry out the open entry now, or `None`. No entry is open, or the
+/// backend isn't enabled, is out, or has taken the entry.
 pub fn not_now_apply<B: Backend, S: Store>(state: &State<B, S>, b: u8) -> Option<Why>
     ensures { result ≡ moves.not_now state.now.core (Move.Apply b) }
 {
@@ -29,6 +31,8 @@ pub fn not_now_apply<B: Backend, S: Store>(state: &State<B, S>, b: u8) -> Option
     }
 }
 
+/// Has backend `b` carry out or skip the open entry, and gives what it did. A backend that failed
+/// or ran out of memory is out.
 pub fn apply<B: Backend, S: Store>(state: &mut State<B, S>, b: u8) -> Moved
     requires within { b < state.old.core.placement.backends }
     requires now { not_now state.old.core (Move.Apply b) ≡ None }

@@ -1,4 +1,4 @@
-//! A backend is armed.
+//! The move `Arm`: the next call of a backend is to fail.
 
 ghost use Rattle.std.specs.Prelude.{◌≡◌, ◌<◌, ◌≤◌, Ok};
 ghost use Rattle.cj_cluster.specs.Moves.Moves as moves;
@@ -14,6 +14,7 @@ use cj_cluster::{Move, Moved};
 use cj_outside::Store;
 use cj_state::State;
 
+/// Makes the next call of backend `b` fail, if it can be armed. Nothing else changes.
 pub fn arm<B: Backend, S: Store>(state: &mut State<B, S>, b: u8) -> Moved
     requires { b < state.old.core.placement.backends }
     ensures moves { Arms state.old.core (Ok result) state.new.core }

@@ -1,4 +1,4 @@
-//! A session is closed.
+//! The move `Close`: a session is closed.
 
 ghost use Rattle.std.specs.Prelude.{◌≡◌, ◌<◌, ◌≤◌, None, Ok};
 ghost use Rattle.cj_cluster.specs.Moves.Moves as moves;
@@ -10,6 +10,8 @@ use cj_cluster::{Move, Moved, Reason, Why};
 use cj_outside::Store;
 use cj_state::State;
 
+/// Returns why session `s` can't be closed now, or `None`. It isn't open, or an entry or a read of
+/// it is open.
 pub fn not_now_close<B: Backend, S: Store>(state: &State<B, S>, s: u64) -> Option<Why>
     ensures { result ≡ moves.not_now state.now.core (Move.Close s) }
 {
@@ -22,6 +24,7 @@ pub fn not_now_close<B: Backend, S: Store>(state: &State<B, S>, s: u64) -> Optio
     None
 }
 
+/// Closes session `s`. Its open transaction, if there is one, becomes an orphan.
 pub fn close<B: Backend, S: Store>(state: &mut State<B, S>, s: u64) -> Moved
     requires { not_now state.old.core (Move.Close s) ≡ None }
     ensures moves { ClosesSession state.old.core s (Ok result) state.new.core }

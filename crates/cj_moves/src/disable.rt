@@ -1,4 +1,4 @@
-//! A backend is disabled.
+//! The move `Disable`: a backend is taken out of service.
 
 ghost use Rattle.std.specs.Prelude.{◌≡◌, ◌<◌, ◌≤◌, length, None, Ok};
 ghost use Rattle.cj_cluster.specs.Moves.Moves as moves;
@@ -11,6 +11,8 @@ use cj_cluster::{Move, Moved, Reason, Why};
 use cj_outside::Store;
 use cj_state::State;
 
+/// Returns why backend `b` can't be disabled now, or `None`. An entry is open, or the backend isn't
+/// enabled.
 pub fn not_now_disable<B: Backend, S: Store>(state: &State<B, S>, b: u8) -> Option<Why>
     ensures { result ≡ moves.not_now state.now.core (Move.Disable b) }
 {
@@ -23,6 +25,8 @@ pub fn not_now_disable<B: Backend, S: Store>(state: &State<B, S>, b: u8) -> Opti
     None
 }
 
+/// Disables backend `b`. `Refused` says that the history has no room for the event, and changes
+/// nothing.
 pub fn disable<B: Backend, S: Store>(state: &mut State<B, S>, b: u8) -> Moved
     requires { not_now state.old.core (Move.Disable b) ≡ None }
     ensures moves { Disables state.old.core b (Ok result) state.new.core }

@@ -1,4 +1,4 @@
-//! A dump is taken of what a backend holds.
+//! The move `Dump`: what a backend holds is kept under a name.
 
 ghost use Rattle.std.specs.Prelude.{true, ◌≡◌, ◌<◌, IsErrOf, None, Ok};
 ghost use Rattle.cj_model.specs.Sql.Names.{is_name};
@@ -16,6 +16,8 @@ use cj_outside::Store;
 use cj_replica::CellError;
 use cj_state::State;
 
+/// Returns why backend `b` can't be dumped under this name now, or `None`. An entry is open, the
+/// backend is enabled or out, or a marker or a dump has the name.
 pub fn not_now_dump<B: Backend, S: Store>(state: &State<B, S>, b: u8, name: &Name) -> Option<Why>
     ensures { result ≡ moves.not_now state.now.core (Move.Dump b name.now) }
 {
@@ -34,6 +36,11 @@ pub fn not_now_dump<B: Backend, S: Store>(state: &State<B, S>, b: u8, name: &Nam
     }
 }
 
+/// Keeps what backend `b` holds as a dump of this name, and gives how many entries the backend has
+/// taken.
+///
+/// `Failed` says that the backend failed: no dump is kept, and a fault is counted. `NoMemory`
+/// changes nothing.
 pub fn dump<B: Backend, S: Store>(
     state: &mut State<B, S>,
     b: u8,

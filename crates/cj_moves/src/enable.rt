@@ -1,4 +1,4 @@
-//! A backend is enabled.
+//! The move `Enable`: a backend is put into service.
 
 ghost use Rattle.std.specs.Prelude.{◌≡◌, ◌<◌, ◌≤◌, length, Some, None, Ok};
 ghost use Rattle.cj_cluster.specs.Moves.Moves as moves;
@@ -11,6 +11,8 @@ use cj_cluster::{Move, Moved, Reason, Why};
 use cj_outside::Store;
 use cj_state::State;
 
+/// Returns why backend `b` can't be enabled now, or `None`. An entry is open, or the backend is
+/// enabled, is out, or has not taken the whole log.
 pub fn not_now_enable<B: Backend, S: Store>(state: &State<B, S>, b: u8) -> Option<Why>
     ensures { result ≡ moves.not_now state.now.core (Move.Enable b) }
 {
@@ -27,6 +29,8 @@ pub fn not_now_enable<B: Backend, S: Store>(state: &State<B, S>, b: u8) -> Optio
     }
 }
 
+/// Enables backend `b`. `Refused` says that the history has no room for the event, and changes
+/// nothing.
 pub fn enable<B: Backend, S: Store>(state: &mut State<B, S>, b: u8) -> Moved
     requires { not_now state.old.core (Move.Enable b) ≡ None }
     ensures moves { Enables state.old.core b (Ok result) state.new.core }

@@ -1,4 +1,4 @@
-//! A backend that is out holds what a dump has of its tables.
+//! The move `Load`: a backend that is out gets what a dump has of its tables.
 
 ghost use Rattle.std.specs.Prelude.{◌≡◌, ◌<◌, None, Ok};
 ghost use Rattle.cj_cluster.specs.Moves.Moves as moves;
@@ -15,6 +15,8 @@ use cj_outside::Store;
 use cj_replica::CellError;
 use cj_state::State;
 
+/// Returns why backend `b` can't load the dump of this name now, or `None`. An entry is open, the
+/// backend is enabled or not out, there is no such dump, or the dump lacks a table of the backend.
 pub fn not_now_load<B: Backend, S: Store>(state: &State<B, S>, b: u8, name: &Name) -> Option<Why>
     requires { b < state.now.core.placement.backends }
     ensures { result ≡ moves.not_now state.now.core (Move.Load b name.now) }
@@ -37,6 +39,10 @@ pub fn not_now_load<B: Backend, S: Store>(state: &State<B, S>, b: u8, name: &Nam
     None
 }
 
+/// Loads the first dump of this name into backend `b`, with only the tables that it hosts, and
+/// gives the dump's position.
+///
+/// `Failed` counts a fault; after `Failed` and `Starved` the backend is still out.
 pub fn load<B: Backend, S: Store>(state: &mut State<B, S>, b: u8, name: &Name) -> Moved
     requires within { b < state.old.core.placement.backends }
     requires now { not_now state.old.core (Move.Load b name.now) ≡ None }

@@ -1,4 +1,4 @@
-//! A checkpoint is marked.
+//! The move `Mark`: a checkpoint gets a name.
 
 ghost use Rattle.std.specs.Prelude.{true, ◌≡◌, ◌<◌, ◌≤◌, length, IsErrOf, None, Ok};
 ghost use Rattle.cj_model.specs.Sql.Names.{is_name};
@@ -15,6 +15,8 @@ use cj_model::{LOG_FAULT, Name, Refusal};
 use cj_outside::Store;
 use cj_state::State;
 
+/// Returns why the name can't mark a checkpoint now, or `None`. An entry is open, or a marker or a
+/// dump has the name.
 pub fn not_now_mark<B: Backend, S: Store>(state: &State<B, S>, name: &Name) -> Option<Why>
     ensures { result ≡ moves.not_now state.now.core (Move.Mark name.now) }
 {
@@ -27,6 +29,10 @@ pub fn not_now_mark<B: Backend, S: Store>(state: &State<B, S>, name: &Name) -> O
     None
 }
 
+/// Marks a checkpoint after all entries so far, and gives how many those are.
+///
+/// `Refused` says that the history has no room, or that the log's store failed, which is then an
+/// event of the history. `NoMemory` leaves all but maybe the log's bytes as it was.
 pub fn mark<B: Backend, S: Store>(state: &mut State<B, S>, name: &Name) -> Result<Moved, MoveError>
     requires name { is_name name.now ≡ true }
     requires now { not_now state.old.core (Move.Mark name.now) ≡ None }

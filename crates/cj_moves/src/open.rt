@@ -1,4 +1,4 @@
-//! A session is opened.
+//! The move `Open`: a session is opened.
 
 ghost use Rattle.std.specs.Prelude.{◌≡◌, ◌<◌, ◌≤◌, length, Ok};
 ghost use Rattle.cj_cluster.specs.Moves.Moves as moves;
@@ -10,6 +10,9 @@ use cj_model::{Text, USER_LIMIT};
 use cj_outside::Store;
 use cj_state::State;
 
+/// Opens a session for this user, a text of at most 64 bytes, and gives its number, the greatest so
+/// far plus 1. `Refused` says that too many sessions are open or no number is left, and changes
+/// nothing.
 pub fn open<B: Backend, S: Store>(state: &mut State<B, S>, user: Text) -> Moved
     requires { length user ≤ USER_LIMIT }
     ensures moves { OpensSession state.old.core user (Ok result) state.new.core }

@@ -1,4 +1,4 @@
-//! A backend is asked for a session.
+//! The move `Read`: a backend is asked a query of a session.
 
 ghost use Rattle.std.specs.Prelude.{◌≡◌, ◌<◌, ◌≤◌, IsErrOf, None, Ok, false, ℕ};
 ghost use Rattle.cj_model.specs.declared.request.Request.TheVariants as requests;
@@ -22,6 +22,7 @@ use cj_model::{
 use cj_outside::Store;
 use cj_state::{AskError, State, covers};
 
+/// Returns why session `s` can't read now, or `None`. It isn't open, or an entry of it is open.
 pub fn not_now_read<B: Backend, S: Store>(state: &State<B, S>, s: u64) -> Option<Why>
     ensures { (b : ℕ) (select : Select) → result ≡ moves.not_now state.now.core (Move.Read s b select) }
 {
@@ -34,7 +35,14 @@ pub fn not_now_read<B: Backend, S: Store>(state: &State<B, S>, s: u64) -> Option
     None
 }
 
-/// One attempt of the session's read.
+/// Asks backend `b` a query for session `s`, in its open transaction. An answer, rows or a refusal,
+/// closes the read.
+///
+/// `Out` and `Behind` leave the read open: the backend is out, or below what the session has seen.
+/// `Failed` leaves it open too; the failure is an event of the history. `Refused` closes it if no
+/// backend serves the query, all that do have failed in it, or the history has no room for the
+/// failure. `NotNow` says that another read is open, or that the backend doesn't serve the query.
+/// `NotNow` and `NoMemory` change nothing.
 pub fn read<B: Backend, S: Store>(
     state: &mut State<B, S>,
     s: u64,
@@ -90,7 +98,7 @@ pub fn read<B: Backend, S: Store>(
     }
 }
 
-/// The session's read stays open as it is.
+/// Keeps the session's read open, with the backends that have failed in it so far.
 fn wait<B: Backend, S: Store>(state: &mut State<B, S>, s: u64, select: Select)
     requires counts { (session_at state.old.core s).requests < REQUEST_LIMIT }
     requires idle { moves.is_waiting state.old.core s ≡ false }
@@ -101,7 +109,7 @@ fn wait<B: Backend, S: Store>(state: &mut State<B, S>, s: u64, select: Select)
     state.keep_reading(s, select, tried);
 }
 
-/// The session's read is answered at a position.
+/// Closes the session's read, which was answered at a position.
 fn give_answer<B: Backend, S: Store>(
     state: &mut State<B, S>,
     s: u64,
@@ -121,8 +129,8 @@ fn give_answer<B: Backend, S: Store>(
     }
 }
 
-/// The session's read is refused where each backend that serves it has failed in it, and else it
-/// stays open.
+/// Refuses the session's read if each backend that serves it has failed in it, and else keeps it
+/// open.
 fn refuse_or_stay<B: Backend, S: Store>(
     state: &mut State<B, S>,
     s: u64,
@@ -152,7 +160,8 @@ fn refuse_or_stay<B: Backend, S: Store>(
     }
 }
 
-/// The session's read is refused, since the history of so many events has no room to note a failure.
+/// Refuses the session's read, since the history, of so many events, has no room for an event of
+/// the failure.
 fn refuse_unnoted<B: Backend, S: Store>(state: &mut State<B, S>, s: u64, events: u64) -> Moved
     requires counts { (session_at state.old.core s).requests < REQUEST_LIMIT }
     requires idle { moves.is_waiting state.old.core s ≡ false }

@@ -1,4 +1,4 @@
-//! A backend that is not enabled takes the next entry of the log.
+//! The move `Replay`: a backend that isn't enabled carries out the next entry of the log.
 
 ghost use Rattle.std.specs.Prelude.{◌≡◌, ◌<◌, ◌≤◌, length, Some, None, Ok};
 ghost use Rattle.cj_cluster.specs.Moves.Moves as moves;
@@ -13,6 +13,8 @@ use cj_cluster::{Move, Moved, Reason, Why};
 use cj_outside::Store;
 use cj_state::State;
 
+/// Returns why backend `b` can't carry out the log's next entry now, or `None`. It is enabled or
+/// out, or has taken the whole log.
 pub fn not_now_replay<B: Backend, S: Store>(state: &State<B, S>, b: u8) -> Option<Why>
     ensures { result ≡ moves.not_now state.now.core (Move.Replay b) }
 {
@@ -26,6 +28,8 @@ pub fn not_now_replay<B: Backend, S: Store>(state: &State<B, S>, b: u8) -> Optio
     }
 }
 
+/// Has backend `b` carry out or skip the entry after its position, and gives the entry's number and
+/// what the backend did. A backend that failed or ran out of memory is out.
 pub fn replay<B: Backend, S: Store>(state: &mut State<B, S>, b: u8) -> Moved
     requires within { b < state.old.core.placement.backends }
     requires now { not_now state.old.core (Move.Replay b) ≡ None }

@@ -1,4 +1,4 @@
-//! A request of a session is scheduled.
+//! The move `Schedule`: a session's request becomes an entry.
 
 ghost use Rattle.std.specs.Prelude.{◌≡◌, ◌<◌, ◌≤◌, length, IsErrOf, Some, None, Ok};
 ghost use Rattle.cj_model.specs.Sql.PlainRequests as plain;
@@ -40,6 +40,8 @@ fn act_of(request: Request) -> Act
     }
 }
 
+/// Returns why session `s` can't schedule a request now, or `None`. It isn't open, an entry or a
+/// read of it is open, or another entry is open.
 pub fn not_now_schedule<B: Backend, S: Store>(state: &State<B, S>, s: u64) -> Option<Why>
     ensures { (r : Request) → result ≡ moves.not_now state.now.core (Move.Schedule s r) }
 {
@@ -55,8 +57,8 @@ pub fn not_now_schedule<B: Backend, S: Store>(state: &State<B, S>, s: u64) -> Op
     None
 }
 
-/// Schedules the request as the session's next entry, and answers the entry's number. Else it answers the refusal,
-/// of a request that is yet to be counted; none where memory was wanting.
+/// Schedules the request as the session's next entry, and returns the entry's number. An error has
+/// the refusal, whose request is yet to be counted, or none if memory ran out.
 fn schedule_uncounted<B: Backend, S: Store>(
     state: &mut State<B, S>,
     s: u64,
@@ -85,6 +87,12 @@ fn schedule_uncounted<B: Backend, S: Store>(
     }
 }
 
+/// Schedules the request, which is no query, as the next entry of session `s`, and gives the
+/// entry's number.
+///
+/// `Refused` counts the request. It says that the session's transaction forbids the request, no
+/// backend serves it, the history has no room, or the log's store failed. That last one is an event
+/// of the history. `NoMemory` leaves all but maybe the log's bytes as it was.
 pub fn schedule<B: Backend, S: Store>(
     state: &mut State<B, S>,
     s: u64,

@@ -15,7 +15,7 @@ use std::alloc::Global;
 use std::process::Abort;
 use std::test::Fail;
 
-/// The book hears where both cells stand, and of their faults.
+/// The book learns the positions of both cells and their faults.
 fn hear_both(
     board: &Board,
     book: &mut BookSeat,
@@ -77,7 +77,7 @@ fn take(
     board.note_fault(second);
 }
 
-/// The whole of it: the book, and the pass that was told in the end.
+/// The whole change: returns the book, and the pass that the book told in the end.
 fn change(alloc: Global, entry: BoxedEntry) -> Result<(BookSeat, Pass), NoMemory>
     requires { IsFitEntry [] entry }
     ensures { IfOk result (λ r. front r.1 ≡ Event.Enabled 0 ∷ Event.Enabled 1 ∷ Event.Sched entry ∷ Event.Ended 2 0 ∷ []) }

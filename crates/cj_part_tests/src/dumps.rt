@@ -61,7 +61,7 @@ fn bytes_of_no_dump(rt: HostRuntime) -> Result<(), Fail> {
 /// Where its fields begin.
 const FIELDS: [u64; 13] = [0, 8, 9, 12, 13, 21, 29, 32, 34, 37, 38, 40, 48];
 
-/// Why the bytes are no dump's; none where they are.
+/// Why the bytes are no dump's, or `None` if they are one's.
 fn refusal_of_dump(alloc: Global, bytes: &[u8]) -> Option<DumpError> {
     match decode(alloc, bytes) {
         Ok(_) => None,

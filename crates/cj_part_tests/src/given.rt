@@ -6,6 +6,7 @@ use std::alloc::Global;
 use std::process::Abort;
 use std::test::Fail;
 
+/// The request of a text.
 pub fn request(rt: &impl Abort, alloc: Global, text: &str) -> Request {
     match read(alloc, text.as_bytes()) {
         Ok(request) => request,
@@ -13,6 +14,7 @@ pub fn request(rt: &impl Abort, alloc: Global, text: &str) -> Request {
     }
 }
 
+/// The query of a SELECT.
 pub fn select(rt: &impl Abort, alloc: Global, text: &str) -> Select {
     match request(rt, alloc, text) {
         Request::Select(select) => select,
@@ -29,6 +31,7 @@ pub fn condition(rt: &impl Abort, alloc: Global, text: &str) -> Cond {
     }
 }
 
+/// The name that a word is.
 pub fn name(rt: &impl Abort, word: &str) -> Name {
     match Name::of(word.as_bytes()) {
         Some(name) => name,
@@ -36,6 +39,7 @@ pub fn name(rt: &impl Abort, word: &str) -> Name {
     }
 }
 
+/// The text of a word.
 pub fn text(rt: &impl Abort, alloc: Global, word: &str) -> Result<Text, Fail> {
     match Text::of(word.as_bytes().to_vec(alloc)?) {
         Some(text) => Ok(text),
@@ -43,7 +47,7 @@ pub fn text(rt: &impl Abort, alloc: Global, word: &str) -> Result<Text, Fail> {
     }
 }
 
-/// The names, with a space behind each.
+/// The names, with a space after each.
 pub fn spelled(alloc: Global, names: &[Name]) -> Result<Vec<u8>, Fail> {
     let mut bytes = Vec::new(alloc);
     for name in names {

@@ -1,6 +1,10 @@
 //! Tests of parts: what calls below a world give, with answers that were worked out by hand.
 //!
-//! Nothing but tests stands here, so that each crate of functions is proved once.
+//! The crate has only tests, so that each crate of functions is proved once. Each file tests one part by calls that
+//! no program makes.
+//! To change: a part that gets a new case gets it in its file. What a list of cases can say belongs to `cjc_cases`,
+//! and what needs generated inputs to `cj_run_tests`.
+//! `specs/` and `proofs/` serve the tests `board` (`proofs/BoardRows`) and `sessions` (`proofs/StarvedTurns`).
 #![tactic(auto)]
 
 #[cfg(test)]

@@ -1,4 +1,4 @@
-//! A session at a desk that wants memory for all that it is asked, with bytes that were worked out by hand.
+//! A session at a desk that runs out of memory at each call, with bytes that were worked out by hand.
 
 ghost use Rattle.std.specs.Prelude.{◌≡◌, true};
 ghost use Rattle.cj_cluster.specs.Wire.Sessions.{refused_reply};

@@ -8,7 +8,7 @@ fn reads(alloc: Global, text: &str) -> bool {
     read(alloc, text.as_bytes()).is_ok()
 }
 
-/// Whether the text is refused, which want of memory doesn't do.
+/// Whether the text is refused as SYNTAX; memory that runs out doesn't count.
 fn is_syntax(alloc: Global, text: &str) -> bool {
     matches!(read(alloc, text.as_bytes()), Err(SqlError::Syntax))
 }
@@ -133,7 +133,7 @@ fn other_texts_are_syntax(rt: HostRuntime) -> Result<(), Fail> {
     Ok(())
 }
 
-/// The first part, a part that comes again, what stands between two, the last part, and how often the part may come.
+/// The first part, a part that comes again, what comes between two, the last part, and how often the part may come.
 const LIMITS: [(&str, &str, &str, &str, usize); 14] = [
     ("CREATE TABLE t (", "k TEXT", ",", ")", 16),
     ("INSERT INTO t (", "k", ",", ") VALUES (1)", 16),

@@ -14,7 +14,7 @@ use Rattle.cj_cluster.specs.History.Transactions.{has_begun}
 use Rattle.cj_replica.specs.declared.replica.CellError.{CellError}
 use Rattle.cj_replica.specs.declared.replica.CellError.TheVariants.{Failed, Starved}
 
--- an act that begins nothing, and ends only what has begun
+-- a backend can carry out the act: no begin, and an end only of a transaction that has begun there
 abbrev pub CanCarryOut : List ℕ → ℕ → Act → Type 0
 CanCarryOut begun tx act.Begin = ⊥
 CanCarryOut begun tx (act.Write w) = Unit {0}
@@ -23,21 +23,22 @@ CanCarryOut begun tx (act.Drop table) = Unit {0}
 CanCarryOut begun tx act.Commit = has_begun begun tx ≡ true
 CanCarryOut begun tx act.Abort = has_begun begun tx ≡ true
 
--- the transactions begun with a write
+-- the transactions begun after a write in transaction tx, 0 for none
 abbrev pub begun_at_write : List ℕ → ℕ → List ℕ
 begun_at_write begun tx = if tx == 0 || has_begun begun tx then begun else begun ++ tx ∷ []
 
--- what is told then: what is after it; or after a fault nothing, and after want of memory nothing or as before
+-- the contents visible after a call: `after` if it succeeded, none after a fault, and none or `before` if memory ran
+-- out
 abbrev pub TellsAfter : {T : Type 0} → Option (List Slot) → Option (List Slot) → Result T CellError → Option (List Slot) → Type 0
 TellsAfter before after (Ok x) now = now ≡ after
 TellsAfter before after (Err Failed) now = now ≡ None
 TellsAfter before after (Err Starved) now = (now ≡ None) ⊎ (now ≡ before)
 
--- the same of an act, with the database that it makes of the one that was told
+-- the contents visible after an act: those that it makes of the ones before, or what an error leaves visible
 abbrev pub TellsCarried : {T : Type 0} → Option (List Slot) → ℕ → Act → Result T CellError → Option (List Slot) → Type 0
 TellsCarried before tx a result now = TellsAfter before (option_map (λ db. (acted db tx a).db) before) result now
 
--- the outcome is that of the act on the database that was told
+-- the outcome is that of the act on the visible contents
 abbrev pub SaysCarried : Option (List Slot) → ℕ → Act → Result Outcome CellError → Type 0
 SaysCarried told tx a result = IfOk result (λ o. IfSome told (λ db. o ≡ (acted db tx a).outcome))
 

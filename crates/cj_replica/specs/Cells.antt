@@ -26,7 +26,7 @@ use Rattle.cj_replica.specs.declared.replica.CellError.TheVariants as errors
 use Rattle.cj_replica.specs.declared.replica.CellReadError.{CellReadError}
 use Rattle.cj_replica.specs.declared.replica.CellReadError.TheVariants as read_errors
 
--- backend b of a placement
+-- what contracts see of the replica of backend b of a placement
 pub record CellState : Type 0 where
   pub b : ℕ
   pub placement : Placement
@@ -47,7 +47,7 @@ pub record CellState : Type 0 where
 
 -- ---- taking an entry
 
--- entry n is the one behind this position
+-- entry n is the first one after this position; there is none where the cell is out
 abbrev pub IsEntryAfter : Option ℕ → ℕ → Type 0
 IsEntryAfter None n = ⊥
 IsEntryAfter (Some p) n = n ≡ p + 1
@@ -56,13 +56,14 @@ IsEntryAfter (Some p) n = n ≡ p + 1
 abbrev pub takes_part_in_entry : CellState → Entry → Bool
 takes_part_in_entry s e = takes_part s.placement s.b s.begun e.tx e.act
 
--- the transactions that it has begun then; after an error it is out, and none
+-- the transactions that a cell has begun after an entry; none after an error, since the cell is out then
 abbrev pub begun_after_entry : List ℕ → Entry → Result Caught CellError → List ℕ
 begun_after_entry begun e (Ok Skipped) = begun
 begun_after_entry begun e (Ok (Did o)) = begun_after begun e.tx e.act
 begun_after_entry begun e (Err d) = []
 
--- where its backend was called, the login of the last call is the one given, or after an error maybe the one before
+-- the last login after an entry: the one given if it was carried out, the one before if it was skipped, one of both
+-- after an error
 abbrev pub LogsInForEntry : Option (List ℕ) → List ℕ → Result Caught CellError → Option (List ℕ) → Type 0
 LogsInForEntry before given (Ok Skipped) now = now ≡ before
 LogsInForEntry before given (Ok (Did o)) now = now ≡ Some given
@@ -74,18 +75,19 @@ is_skipped (Ok Skipped) = true
 is_skipped (Ok (Did o)) = false
 is_skipped (Err d) = false
 
--- at this position, or out
+-- the position after a call: n if it succeeded, none after an error, since the cell is out then
 abbrev pub position_after : {T : Type 0} → ℕ → Result T CellError → Option ℕ
 position_after n (Ok caught) = Some n
 position_after n (Err e) = None
 
--- the outcome is that of the entry on the database that was told
+-- the outcome is that of the entry on the visible contents
 abbrev pub SaysEntryOutcome : Option (List Slot) → Entry → Result Caught CellError → Type 0
 SaysEntryOutcome told e (Ok Skipped) = Unit {0}
 SaysEntryOutcome told e (Ok (Did o)) = IfSome told (λ db. o ≡ (step db e).outcome)
 SaysEntryOutcome told e (Err d) = Unit {0}
 
--- what is told then: the entry's database, where one was told, or as before if the entry was skipped; and after an error nothing, or after want of memory maybe as before
+-- the contents visible after an entry: those that it makes of the ones before; a skipped entry leaves them; none
+-- after a fault, and none or those before if memory ran out
 abbrev pub TellsAfterEntry : Option (List Slot) → Entry → Result Caught CellError → Option (List Slot) → Type 0
 TellsAfterEntry before e (Ok Skipped) now = now ≡ before
 TellsAfterEntry before e (Ok (Did o)) now = now ≡ option_map (λ db. (step db e).db) before
@@ -101,22 +103,22 @@ IsCaught (Did o) = IsOutcome o
 abbrev pub HasCellCause : {T : Type 0} → ℕ → ℕ → Result T CellError → Type 0
 HasCellCause before now result = CountsFault (IsErrOf result errors.Failed) before now
 
--- where its backend was asked, an armed one failed and is no longer armed; one that was not asked stays as it was
+-- a backend that was asked fails if it was armed, and is no longer armed; one that was not asked stays as it was
 pub record SpendsArmingIf (asked : Bool) (failed : Type 0) (before now : Arming) : Type 0 where
   pub fails : asked ≡ true → before.armed ≡ true → failed
   pub after : now ≡ (if asked then spent before else before)
 
--- a cell's error from its backend's
+-- the error of a cell for an error of its backend
 abbrev pub error_of : BackendError → CellError
 error_of backend_errors.Failed = errors.Failed
 error_of backend_errors.NoMemory = errors.Starved
 
--- what a cell keeps of the transactions begun is what its backend has begun, unless the cell is out: then it keeps none
+-- a cell keeps the transactions that its backend has begun; one that is out keeps none
 abbrev pub KeepsBegun : Option ℕ → List ℕ → List ℕ → Type 0
 KeepsBegun None kept begun = kept ≡ []
 KeepsBegun (Some p) kept begun = begun ≡ kept
 
--- a replica takes entry n, under the login given
+-- a replica carries out entry n under the login given, or skips it
 pub record CatchesUp (before : CellState) (n : ℕ) (e : Entry) (given : List ℕ) (result : Result Caught CellError) (after : CellState) : Type 0 where
   pub part : takes_part_in_entry before e ≡ not (is_skipped result)
   pub outcome : SaysEntryOutcome before.told e result
@@ -133,7 +135,7 @@ pub record CatchesUp (before : CellState) (n : ℕ) (e : Entry) (given : List �
 
 -- ---- contents
 
--- it says what its backend holds, drafts included
+-- a cell gives all that its backend holds, drafts included
 pub record GivesContents (before : CellState) (result : Result (List Slot) CellError) (after : CellState) : Type 0 where
   pub contents : IfOk result (λ db. IfSome before.told (λ held. db ≡ held))
   pub storable : IfOk result IsStorable
@@ -143,24 +145,26 @@ pub record GivesContents (before : CellState) (result : Result (List Slot) CellE
 
 -- ---- loading
 
--- the transactions that it has begun then, those with a draft in the database that was loaded; after an error it is out, and none
+-- the transactions that a cell has begun after a load: those with a draft in the loaded database; none after an error
 abbrev pub begun_loaded : {T : Type 0} → List Slot → Result T CellError → List ℕ
 begun_loaded db (Ok x) = writers db
 begun_loaded db (Err e) = []
 
--- what is told then: the database that was loaded, of a backend that tells; and after a fault nothing, or after want of memory nothing or as before
+-- the contents visible after a load: the loaded database if the backend tells; none after a fault, and none or those
+-- before if memory ran out
 abbrev pub TellsLoaded : {T : Type 0} → Bool → List Slot → Result T CellError → Option (List Slot) → Option (List Slot) → Type 0
 TellsLoaded tells db (Ok x) before now = now ≡ (if tells then Some db else None)
 TellsLoaded tells db (Err errors.Failed) before now = now ≡ None
 TellsLoaded tells db (Err errors.Starved) before now = (now ≡ None) ⊎ (now ≡ before)
 
--- its backend was asked unless memory was wanting before, which leaves the backend as it was; an armed one failed, and is no longer armed
+-- an armed backend fails a load and is no longer armed; if memory ran out before the backend was asked, it stays as
+-- it was
 abbrev pub SpendsArmingAtLoad : {T : Type 0} → Arming → Arming → Result T CellError → Type 0
 SpendsArmingAtLoad before now (Ok x) = (before.armed ≡ false) × (now ≡ spent before)
 SpendsArmingAtLoad before now (Err errors.Failed) = now ≡ spent before
 SpendsArmingAtLoad before now (Err errors.Starved) = (now ≡ before) ⊎ ((before.armed ≡ false) × (now ≡ spent before))
 
--- it holds a database from now on, of a position
+-- a cell loads a database and is then at a position of the log
 pub record LoadsDatabase (tells : Bool) (before : CellState) (db : List Slot) (position : ℕ) (result : Result Unit CellError) (after : CellState) : Type 0 where
   pub place : after.position ≡ position_after position result
   pub begun : after.begun ≡ begun_loaded db result
@@ -175,7 +179,7 @@ pub record LoadsDatabase (tells : Bool) (before : CellState) (db : List Slot) (p
 
 -- ---- reading
 
--- the answer is that of the query on the database that is told
+-- the answer is that of the query on the visible contents
 abbrev pub SaysReadAnswer : Option (List Slot) → ℕ → Select → Asked → Type 0
 SaysReadAnswer told tx select answer = IfSome told (λ db. answer ≡ ask db tx select)
 
@@ -191,7 +195,8 @@ was_asked (Err (read_errors.Behind p)) = false
 was_asked (Err read_errors.Failed) = true
 was_asked (Err read_errors.NoMemory) = true
 
--- where its backend answered, the login of the last call is the one given, and where it failed maybe the one before; else it is as before
+-- the last login after a query: the one given if the backend answered, the one given or the one before if it failed,
+-- else the one before
 abbrev pub LogsInForAnswer : {A : Type 0} → Option (List ℕ) → List ℕ → Result A CellReadError → Option (List ℕ) → Type 0
 LogsInForAnswer before given (Ok answer) now = now ≡ Some given
 LogsInForAnswer before given (Err read_errors.Out) now = now ≡ before
@@ -199,11 +204,13 @@ LogsInForAnswer before given (Err (read_errors.Behind p)) now = now ≡ before
 LogsInForAnswer before given (Err read_errors.Failed) now = (now ≡ Some given) ⊎ (now ≡ before)
 LogsInForAnswer before given (Err read_errors.NoMemory) now = now ≡ before
 
+-- the error of a cell in a query for an error of its backend
 abbrev pub read_error_of : BackendError → CellReadError
 read_error_of backend_errors.Failed = read_errors.Failed
 read_error_of backend_errors.NoMemory = read_errors.NoMemory
 
--- It answers from what its backend holds, at a position not below the least, under the login given. What an answer is of the database that is told, and of any, and how it is counted, is said for each kind of answer.
+-- A cell answers from its backend's contents, at a position not below the least, under the login given. The
+-- parameters say what an answer is on visible contents, which answers are possible, and how they are counted.
 pub record AnswersAt {A : Type 0} (SaysOf : Option (List Slot) → A → Type 0) (IsPossible : A → Type 0) (counted : ℕ → Result (A × ℕ) CellReadError → ℕ)
     (before : CellState) (given : List ℕ) (least : ℕ) (result : Result (A × ℕ) CellReadError) (after : CellState) : Type 0 where
   pub out : (result ≡ Err read_errors.Out) ↔ (before.position ≡ None)
@@ -218,16 +225,18 @@ pub record AnswersAt {A : Type 0} (SaysOf : Option (List Slot) → A → Type 0)
   pub login : LogsInForAnswer before.login given result after.login
   pub same : after ≡ record before { login = after.login; faults = after.faults; asks = after.asks; arming = after.arming }
 
--- it answers a query of a transaction, 0 for none
+-- a cell answers a query in a transaction, 0 for none
 abbrev pub ReadsAnswer : CellState → List ℕ → ℕ → Select → ℕ → Result (Asked × ℕ) CellReadError → CellState → Type 0
 ReadsAnswer before given tx select least result after = AnswersAt (λ told answer. SaysReadAnswer told tx select answer) IsAsked asks_after before given least result after
 
--- the words of an answer, of that to a query
+-- a query counts a fault exactly where the cell answers that its backend failed
 abbrev pub HasCellReadCause : ℕ → ℕ → Result (Asked × ℕ) CellReadError → Type 0
 HasCellReadCause before now result = HasReadCause before now result
 
+-- the backend was asked the query
 abbrev pub is_asked : Result (Asked × ℕ) CellReadError → Bool
 is_asked result = was_asked result
 
+-- the last login after a query of rows
 abbrev pub LogsInForRead : Option (List ℕ) → List ℕ → Result (Asked × ℕ) CellReadError → Option (List ℕ) → Type 0
 LogsInForRead before given result now = LogsInForAnswer before given result now

@@ -1,4 +1,4 @@
--- What a cell's calls give, in the words of the log: what the one database of the entries comes to, answers and holds.
+-- What a cell's calls give, in terms of the log: outcomes, answers and contents of the one database of its entries.
 use Rattle.std.specs.Prelude.{◌≡◌, ℕ, ◌-◌, true, List, IfOk, IfSome}
 use Rattle.std.specs.declared.option.Option.{Option}
 use Rattle.std.specs.declared.option.Option.TheVariants.{Some}
@@ -16,16 +16,16 @@ use Rattle.cj_replica.specs.declared.replica.Caught.TheVariants.{Skipped, Did}
 use Rattle.cj_replica.specs.declared.replica.CellError.{CellError}
 use Rattle.cj_replica.specs.declared.replica.CellReadError.{CellReadError}
 
--- what it did with entry n is what the entry comes to
+-- the outcome that a cell gives for entry n is the entry's outcome in the log
 abbrev pub IsLoggedOutcome : List Entry → ℕ → Result Caught CellError → Type 0
 IsLoggedOutcome entries n (Ok Skipped) = Unit {0}
 IsLoggedOutcome entries n (Ok (Did o)) = outcome_of entries (n - 1) ≡ Some o
 IsLoggedOutcome entries n (Err d) = Unit {0}
 
--- where it hosts each table of the query, its answer is that of the database at the position that it says
+-- if the cell hosts each table of the query, its answer is that of the log's database at the position given
 abbrev pub IsLoggedAnswer : Placement → ℕ → List Entry → ℕ → Select → Result (Asked × ℕ) CellReadError → Type 0
 IsLoggedAnswer p b entries tx select result = hosts_all p b select.tables ≡ true → IfOk result (λ x. x.0 ≡ ask (database_after entries x.1) tx select)
 
--- what it holds is its part of the database at its position
+-- the contents of a cell are its part of the log's database at its position
 abbrev pub IsLoggedPart : Placement → ℕ → List Entry → Option ℕ → Result (List Slot) CellError → Type 0
 IsLoggedPart p b entries position result = IfOk result (λ db. IfSome position (λ n. db ≡ part p b (database_after entries n)))

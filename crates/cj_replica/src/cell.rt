@@ -26,13 +26,14 @@ use cj_place::Placement;
 use std::alloc::Global;
 use std::marker::{Model, PhantomData};
 
-/// A replica at its seat at a board. The board knows its position, and each fault of its backend since it took the seat.
-/// What it loads stands in stores of the kind `D`, which tell their bytes or don't.
+/// A replica at its seat at a board. The board knows the replica's position, and each fault of its
+/// backend since the seat was taken. `D` is the kind of store that loaded dumps come from.
+/// Contracts speak of contents only if the backend and `D` both tell theirs.
 #[derive(Drop)]
 pub struct Cell<B: Backend, D: Store = MemStore> {
     replica: Replica<B>,
     seat: CellSeat,
-    /// How many faults the backend had counted when it took the seat.
+    /// How many faults the backend had counted when the seat was taken.
     faults_before: u64,
     dumps: PhantomData<D>,
 }
@@ -56,7 +57,7 @@ impl<B: Backend, D: Store> Model for Cell<B, D> {
 
 // The seat's steps, apart from the replica.
 
-/// The backend took the next entry, or is out.
+/// Notes on the board that the backend took the next entry, or that it is out.
 fn note_entry(board: &Board, seat: &mut CellSeat, caught: &Result<Caught, CellError>)
     requires board { cell_board seat.old ≡ board_id board.now }
     requires below { position seat.old < length (log (seen seat.old)) }
@@ -73,7 +74,8 @@ fn note_entry(board: &Board, seat: &mut CellSeat, caught: &Result<Caught, CellEr
     }
 }
 
-/// A backend that was out stands at the position, or may have failed once more.
+/// Notes on the board what a load did: the backend is at the position, or still out and maybe
+/// failed once more.
 fn note_load(board: &Board, seat: &mut CellSeat, position: u64, loaded: &Result<(), CellError>)
     requires board { cell_board seat.old ≡ board_id board.now }
     requires out { role_position (cell_view seat.old).role ≡ max_word }
@@ -88,7 +90,7 @@ fn note_load(board: &Board, seat: &mut CellSeat, position: u64, loaded: &Result<
     }
 }
 
-/// The backend failed once more, or did not.
+/// Notes on the board that the backend failed once more, if it did.
 fn note_contents(board: &Board, seat: &mut CellSeat, contents: &Result<Db, CellError>)
     requires board { cell_board seat.old ≡ board_id board.now }
     ensures same { (cell_board seat.new ≡ cell_board seat.old) × (seat.new.b ≡ seat.old.b) }
@@ -100,6 +102,7 @@ fn note_contents(board: &Board, seat: &mut CellSeat, contents: &Result<Db, CellE
     }
 }
 
+/// Notes on the board that the backend failed in a query, if it did.
 fn note_read(board: &Board, seat: &mut CellSeat, answer: &Result<(Asked, u64), CellReadError>)
     requires board { cell_board seat.old ≡ board_id board.now }
     ensures same { (cell_board seat.new ≡ cell_board seat.old) × (seat.new.b ≡ seat.old.b) }
@@ -118,7 +121,8 @@ impl<B: Backend, D: Store> Cell<B, D> {
     ghost use Rattle.cj_replica.specs.Logged.{IsLoggedAnswer, IsLoggedOutcome, IsLoggedPart};
     ghost use Rattle.cj_replica.specs.Seated.{HasBackend, IsSameSeat, IsSeated, StandsWhereEnabled};
 
-    /// Backend `b` of the placement, which has taken no entry, at a seat that has seen none.
+    /// Makes the cell of backend `b` of the placement, at position 0. The backend has taken no
+    /// entry and begun no transaction, and the seat is new.
     pub fn new(alloc: Global, b: u8, placement: Placement, backend: B, seat: CellSeat) -> Cell<B, D>
         requires begun { B.begun backend ≡ [] }
         requires empty { (D.tells && B.tells) ≡ true → B.told backend ≡ Some [] }
@@ -135,8 +139,10 @@ impl<B: Backend, D: Store> Cell<B, D> {
         }
     }
 
-    /// Takes entry `n` of what the seat has seen, the next, under this login. An entry in which its
-    /// backend has no part is skipped, and takes no memory. After an error it is out.
+    /// Carries out entry `n` at the backend, under this login. `n` is the cell's position plus 1,
+    /// and the seat has seen the entry. An entry in which the backend has no part is skipped, which
+    /// takes no memory. After an error the cell is out. `Failed` counts a fault, `Starved` counts
+    /// none.
     pub fn catch_up(
         &mut self,
         board: &Board,
@@ -157,7 +163,8 @@ impl<B: Backend, D: Store> Cell<B, D> {
         caught
     }
 
-    /// What its backend holds, drafts included. Nothing is changed by it.
+    /// Asks the backend for its whole contents, drafts included. The contents and the position
+    /// stay. `Failed` counts a fault, `Starved` counts none.
     pub fn contents(&mut self, board: &Board) -> Result<Db, CellError>
         requires board { self.old.board ≡ board_id board.now }
         ensures state { GivesContents self.old.state result self.new.state }
@@ -170,9 +177,10 @@ impl<B: Backend, D: Store> Cell<B, D> {
         contents
     }
 
-    /// Holds this database from now on, its part of the database after so many entries of what the
-    /// seat has seen. It is out before, and stays so where the backend fails or memory is wanting.
-    /// The transactions with a draft in it are begun.
+    /// Replaces the contents of the backend, which is out, by its part of the database after
+    /// `position` entries. The seat has seen that many. Then the cell is at that position, and the
+    /// transactions with a draft in `db` are begun there. After an error the cell is still out.
+    /// `Failed` counts a fault, `Starved` counts none.
     pub fn load(&mut self, board: &Board, db: Db, position: u64) -> Result<(), CellError>
         requires board { self.old.board ≡ board_id board.now }
         requires out { self.old.state.position ≡ None }
@@ -188,8 +196,10 @@ impl<B: Backend, D: Store> Cell<B, D> {
         loaded
     }
 
-    /// Answers a query of transaction `tx`, 0 for none, at a position not below `least`, and says
-    /// which that is.
+    /// Answers a query in transaction `tx`, 0 for none, under this login, and says at which
+    /// position. `Out` and `Behind` come before the backend is asked: the cell has missed an entry,
+    /// or is below `least`. `Failed` counts a fault. The contents and the position stay in any
+    /// case.
     pub fn read(
         &mut self,
         board: &Board,
@@ -210,8 +220,9 @@ impl<B: Backend, D: Store> Cell<B, D> {
         answer
     }
 
-    /// Has seen the pass's history too, and its backend has at least the faults that the pass noted.
-    /// Where that history was idle with the backend enabled, it stands at the end of the log of then, or has seen a longer one.
+    /// Lets the seat see what the pass knows: its history, and how many faults it noted. The pass
+    /// stays as it was. If a history seen was idle with the backend enabled, the cell is at the end
+    /// of the log of then, or has seen a longer log.
     pub fn brief(&mut self, board: &Board, pass: &mut Pass)
         requires board { (self.old.board ≡ board_id board.now) × (pass_board pass.old ≡ board_id board.now) }
         ensures board { pass_board pass.new ≡ pass_board pass.old }
@@ -226,8 +237,8 @@ impl<B: Backend, D: Store> Cell<B, D> {
         board.brief(&mut self.seat, pass);
     }
 
-    /// The pass has seen its history, has its notes, one of its faults and, unless it is out, one of its position, and takes its
-    /// fault tokens.
+    /// Lets the pass see what the seat knows: its history, its notes, the number of faults and,
+    /// unless the cell is out, its position. The seat's fault tokens go to the pass.
     pub fn report(&mut self, board: &Board, pass: &mut Pass)
         requires board { (self.old.board ≡ board_id board.now) × (pass_board pass.old ≡ board_id board.now) }
         ensures board { pass_board pass.new ≡ pass_board pass.old }
@@ -244,7 +255,8 @@ impl<B: Backend, D: Store> Cell<B, D> {
         board.report(&mut self.seat, pass);
     }
 
-    /// The backend's number, which is below the number of backends of its board.
+    /// Returns the backend's number, counted from 0. It is below the number of backends of its
+    /// board, and below `BACKEND_LIMIT`.
     pub fn number(&self) -> u8
         ensures number { result ≡ self.now.state.b }
         ensures known { HasBackend self.now.board result × (result < BACKEND_LIMIT) }
@@ -252,14 +264,14 @@ impl<B: Backend, D: Store> Cell<B, D> {
         self.seat.backend()
     }
 
-    /// How many entries it has taken; none where it is out.
+    /// Returns how many entries the cell has taken, or `None` if it is out.
     pub fn position(&self) -> Option<u64>
         ensures { result ≡ self.now.state.position }
     {
         self.replica.position()
     }
 
-    /// The backend, as it stands.
+    /// Returns the backend, as it is.
     pub fn backend(&self) -> &B
         ensures told { B.told result.now ≡ self.now.state.told }
         ensures faults { B.faults result.now ≡ self.now.state.faults }
@@ -271,7 +283,7 @@ impl<B: Backend, D: Store> Cell<B, D> {
         self.replica.backend()
     }
 
-    /// Asks that the backend's next call fails; one that can't do so ignores it.
+    /// Makes the backend's next call fail. A backend that can't be armed ignores this.
     pub fn arm(&mut self)
         ensures state { self.new.state ≡ record self.old.state { arming = backends.arming_after B.can_be_armed self.old.state.arming } }
         ensures seat { self.new.view ≡ self.old.view }
@@ -280,7 +292,7 @@ impl<B: Backend, D: Store> Cell<B, D> {
         self.replica.arm();
     }
 
-    /// The backend, which leaves its cell.
+    /// Takes the cell apart and returns the backend, as it is.
     pub fn into_backend(self) -> B
         ensures told { B.told result ≡ self.state.told }
         ensures faults { B.faults result ≡ self.state.faults }
@@ -293,7 +305,8 @@ impl<B: Backend, D: Store> Cell<B, D> {
         replica.into_backend()
     }
 
-    /// The seat says where the replica stands, which holds its part of what the seat has seen.
+    /// Shows what holds of every cell: the seat has the replica's position, and the replica holds
+    /// its part of the log that the seat has seen.
     pub fn legal(&self)
         ensures { IsSeated (D.tells && B.tells) self.now }
     {

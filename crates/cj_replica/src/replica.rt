@@ -26,18 +26,18 @@ use thiserror::Error;
 /// What a cell did with an entry.
 #[derive(Clone, Copy)]
 pub enum Caught {
-    /// Its backend has no part in the entry.
+    /// The backend has no part in the entry.
     Skipped,
-    /// Its backend carried the entry out.
+    /// The backend carried the entry out.
     Did(Outcome),
 }
 
-/// Why a cell did not take an entry. It is out then.
+/// Why a call of a cell failed. After an error in an entry or a load the cell is out.
 #[derive(Clone, Copy, Debug, PartialEq, Eq, Error)]
 pub enum CellError {
     #[error("the backend failed")]
     Failed,
-    /// The backend wanted memory, or the cell did to begin a transaction.
+    /// Memory ran out, in the backend or for the list of its transactions.
     #[error("out of memory")]
     Starved,
 }
@@ -124,7 +124,8 @@ impl<B: Backend> Replica<B> {
     ghost use Rattle.cj_replica.specs.Cells.{CatchesUp, GivesContents, IsEntryAfter, KeepsBegun, LoadsDatabase, ReadsAnswer, takes_part_in_entry};
     ghost use Rattle.cj_place.specs.Layouts.{placement_of};
 
-    /// Backend `b` of the placement, which has taken no entry.
+    /// Makes the replica of backend `b` of the placement, at position 0. The backend has begun no
+    /// transaction.
     pub fn new(alloc: Global, b: u8, placement: Placement, backend: B) -> Replica<B>
         requires { B.begun backend ≡ [] }
         ensures { result ≡ record { b = b; placement = placement_of placement; position = Some 0; begun = []; login = B.login backend; told = B.told backend; faults = B.faults backend; asks = B.asks backend; arming = B.arming backend } }
@@ -153,9 +154,10 @@ impl<B: Backend> Replica<B> {
         }
     }
 
-    /// Takes entry `n`, the next, under this login. An entry in which its backend has no part is
-    /// skipped, and takes no memory. A transaction begins there with its first write of a table that
-    /// the backend hosts.
+    /// Carries out entry `n`, the next after the replica's position, at the backend and under this
+    /// login. An entry in which the backend has no part is skipped, which takes no memory. A
+    /// transaction begins at the backend with its first write of a table that the backend hosts.
+    /// After an error the replica is out, and has begun nothing.
     pub fn catch_up(&mut self, n: u64, e: &Entry, login: &Text) -> Result<Caught, CellError>
         requires next { IsEntryAfter self.old.position n }
         requires written { IsWritten (request_of e.now.act) }
@@ -175,22 +177,23 @@ impl<B: Backend> Replica<B> {
         Ok(Caught::Did(outcome))
     }
 
-    /// What its backend holds, drafts included. Nothing is changed by it.
+    /// Asks the backend for its whole contents, drafts included. The contents and the position
+    /// stay.
     pub fn contents(&mut self) -> Result<Db, CellError>
         ensures { GivesContents self.old result self.new }
     {
         Ok(self.backend.contents()?)
     }
 
-    /// Holds this database from now on, which its backend is to hold at a position of the log. It
-    /// is out before, and stays so where the backend fails or memory is wanting. The transactions
-    /// with a draft in it are begun.
+    /// Replaces the contents of the backend, which is out, by the database at a position of the
+    /// log. Then the replica is at that position, and the transactions with a draft in `db` are
+    /// begun there. After an error the replica is still out.
     pub fn load(&mut self, db: Db, position: u64) -> Result<(), CellError>
         requires out { self.old.position ≡ None }
         requires storable { IsStorable db }
         ensures { LoadsDatabase B.tells self.old db position result self.new }
     {
-        // The list comes before the backend: want of memory for it leaves the backend as it was.
+        // The list is made before the backend is called: if memory runs out for it, the backend stays as it was.
         let begun = writers_of(*self.begun.allocator(), db.as_slice())?;
         self.backend.load(db)?;
         self.begun = begun;
@@ -198,8 +201,9 @@ impl<B: Backend> Replica<B> {
         Ok(())
     }
 
-    /// Answers a query of transaction `tx`, 0 for none, at a position not below `least`, and says
-    /// which that is.
+    /// Answers a query in transaction `tx`, 0 for none, under this login, and says at which
+    /// position. `Out` and `Behind` come before the backend is asked: the replica has missed an
+    /// entry, or is below `least`. The contents and the position stay in any case.
     pub fn read(
         &mut self,
         login: &Text,
@@ -220,14 +224,14 @@ impl<B: Backend> Replica<B> {
         Ok((answer, position))
     }
 
-    /// How many entries it has taken; none where it is out.
+    /// Returns how many entries the replica has taken, or `None` if it is out.
     pub fn position(&self) -> Option<u64>
         ensures { result ≡ self.now.position }
     {
         self.position
     }
 
-    /// The backend, as it stands.
+    /// Returns the backend, as it is.
     pub fn backend(&self) -> &B
         ensures told { B.told result.now ≡ self.now.told }
         ensures faults { B.faults result.now ≡ self.now.faults }
@@ -239,14 +243,14 @@ impl<B: Backend> Replica<B> {
         &self.backend
     }
 
-    /// Asks that the backend's next call fails; one that can't do so ignores it.
+    /// Makes the backend's next call fail. A backend that can't be armed ignores this.
     pub fn arm(&mut self)
         ensures { self.new ≡ record self.old { arming = backends.arming_after B.can_be_armed self.old.arming } }
     {
         self.backend.arm();
     }
 
-    /// The backend, which leaves.
+    /// Takes the replica apart and returns the backend, as it is.
     pub fn into_backend(self) -> B
         ensures told { B.told result ≡ self.told }
         ensures faults { B.faults result ≡ self.faults }
@@ -272,7 +276,7 @@ fn forget(begun: &mut Vec<u64>, tx: u64)
     begun.retain(|other| *other != tx);
 }
 
-/// Begins a transaction at its backend, unless it is none or has begun there.
+/// Begins a transaction at its backend, unless `tx` is 0 or has begun there.
 #[tactic(auto, using(crate::proofs::Begun::contains_begun))]
 fn begin_once<B: Backend>(
     backend: &mut B,
@@ -293,7 +297,7 @@ fn begin_once<B: Backend>(
     if tx == 0 || is_begun(begun.as_slice(), tx) {
         return Ok(());
     }
-    // The backend comes before the list: an armed one fails, also where memory is wanting.
+    // The backend is called before the list grows: an armed one fails, also if memory runs out.
     backend.begin(login, tx)?;
     match begun.push(tx) {
         Ok(()) => Ok(()),
@@ -301,7 +305,7 @@ fn begin_once<B: Backend>(
     }
 }
 
-/// Carries out a write, with which its transaction begins if it has not begun there.
+/// Carries out a write. Its transaction begins at the backend first, if it has not begun there.
 fn write_at<B: Backend>(
     backend: &mut B,
     begun: &mut Vec<u64>,

@@ -10,7 +10,7 @@ use cj_model::{NoMemory, Slot};
 use std::alloc::Global;
 use std::cmp::Ordering;
 
-/// In front of which place a number is put among rising ones; none where it is one of them.
+/// Returns the place at which the number goes among rising ones, or `None` if it is one of them.
 fn gap_for(numbers: &[u64], number: u64) -> Option<usize>
     ensures { IsGap nat_cmp numbers.now number result }
 {
@@ -42,7 +42,7 @@ fn put_writer(numbers: &mut Vec<u64>, slot: &Slot) -> Result<(), NoMemory>
     }
 }
 
-/// The transactions that have a draft in these slots, in rising number.
+/// Returns the transactions that have a draft in these slots, by rising number.
 pub fn writers_of(alloc: Global, slots: &[Slot]) -> Result<Vec<u64>, NoMemory>
     ensures { IfOk result (λ found. found.items ≡ writers slots.now) }
 {

@@ -6,11 +6,11 @@ use crate::handed::{
 use std::process::Abort;
 use std::test::Fail;
 
-/// Its input is 123 bytes, and its replies are 71.
+/// The worked session: its input is 123 bytes, and its replies are 71.
 const WORKED: [&str; 3] = [CREATE, INSERT, SELECT];
 
-/// What is written of the worked session's replies where so many bytes of its input come, fewer than all, and the
-/// status.
+/// What is written of the worked session's replies, and the status, if only so many bytes of its
+/// input come, fewer than all.
 fn written_of(count: usize) -> (usize, u8) {
     match count {
         0 => (0, 0),

@@ -7,14 +7,14 @@ use std::alloc::Global;
 use std::process::Abort;
 use std::test::Fail;
 
-/// Every table stands on both of two backends in memory, and there is one user.
+/// A configuration in which every table is on both of two backends in memory, and there is one user.
 pub const C1: &str = r#"level = "raidb1"
 cache = 64
 backends = [{ name = "b0", kind = "memory" }, { name = "b1", kind = "memory" }]
 users = [{ name = "ann", sha256 = "2bb80d537b1da3e38bd30361aa855686bde0eacd7162fef6a25fe97bf527a25b", logins = ["l0", "l1"] }]
 "#;
 
-/// The same over one SQLite database, and one in memory.
+/// A configuration in which every table is on a SQLite database and on one backend in memory.
 pub const MIXED: &str = r#"level = "raidb1"
 cache = 64
 backends = [{ name = "b0", kind = "sqlite" }, { name = "b1", kind = "memory" }]
@@ -24,14 +24,19 @@ users = [{ name = "ann", sha256 = "2bb80d537b1da3e38bd30361aa855686bde0eacd7162f
 /// The Login of the one user.
 pub const LOGIN: &[u8] = b"\x00\x00\x00\x0e\x01\x00\x03ann\x00\x06secret";
 
+/// A statement that makes table `t`.
 pub const CREATE: &str = "CREATE TABLE t (k INTEGER PRIMARY KEY, v TEXT)";
 
+/// A statement that adds the row (1, 'a').
 pub const INSERT: &str = "INSERT INTO t VALUES (1, 'a')";
 
+/// A query for all rows of table `t`.
 pub const SELECT: &str = "SELECT * FROM t";
 
+/// The reply that no row was changed.
 pub const DONE_0: &[u8] = b"\x00\x00\x00\x09\x81\x00\x00\x00\x00\x00\x00\x00\x00";
 
+/// The reply that one row was changed.
 pub const DONE_1: &[u8] = b"\x00\x00\x00\x09\x81\x00\x00\x00\x00\x00\x00\x00\x01";
 
 /// The row (1, 'a') of columns k and v.
@@ -47,7 +52,7 @@ pub fn query(input: &mut Vec<u8>, text: &str) -> Result<(), Fail> {
     Ok(())
 }
 
-/// A Login, and these statements.
+/// The frames of a Login and of these statements.
 pub fn session(alloc: Global, statements: &[&str]) -> Result<Vec<u8>, Fail> {
     let mut input = LOGIN.to_vec(alloc)?;
     for text in statements {
@@ -56,7 +61,7 @@ pub fn session(alloc: Global, statements: &[&str]) -> Result<Vec<u8>, Fail> {
     Ok(input)
 }
 
-/// What an accepted Login gets, and these replies.
+/// The reply to an accepted Login, and these replies.
 pub fn accepted(alloc: Global, replies: &[&[u8]]) -> Result<Vec<u8>, Fail> {
     let mut output = DONE_0.to_vec(alloc)?;
     for reply in replies {
@@ -90,7 +95,7 @@ pub struct Handed {
 }
 
 impl Handed {
-    /// This configuration and this input; no call fails.
+    /// Objects with this configuration and this input; no call fails.
     pub fn of(alloc: Global, conf: &str, input: &[u8]) -> Result<Handed, Fail> {
         Ok(Handed {
             conf: MemStore::new(conf.as_bytes().to_vec(alloc)?, Vec::new(alloc)),
@@ -101,14 +106,14 @@ impl Handed {
         })
     }
 
-    /// This log and this input; no call fails.
+    /// Objects with this log and this input; no call fails.
     pub fn over(alloc: Global, log: &[u8], input: &[u8]) -> Result<Handed, Fail> {
         let mut handed = Handed::of(alloc, C1, input)?;
         handed.log = log.to_vec(alloc)?;
         Ok(handed)
     }
 
-    /// The status of the command, at the moment 1700000000.
+    /// Runs the command at the moment 1700000000, and returns its status.
     pub fn run(&mut self, alloc: Global, command: &str) -> Result<u8, Fail> {
         let words = words(alloc, command)?;
         let clock = FixedClock::new(1_700_000_000);
@@ -125,10 +130,12 @@ impl Handed {
         ))
     }
 
+    /// What the command wrote to its output.
     pub fn output(&self) -> &[u8] {
         self.output.content()
     }
 
+    /// What the command wrote to its errors.
     pub fn errors(&self) -> &[u8] {
         self.errors.content()
     }

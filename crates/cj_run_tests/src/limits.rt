@@ -47,7 +47,7 @@ fn no_more_than_1024_sessions_are_open(rt: HostRuntime) -> Result<(), Fail> {
     Ok(())
 }
 
-/// What `script` writes where its input is this.
+/// What `script` writes for this input.
 fn played(alloc: Global, script: &str) -> Result<Vec<u8>, Fail> {
     let mut handed = Handed::of(alloc, MIXED, script.as_bytes())?;
     let _status = handed.run(alloc, "script c1.toml")?;
@@ -89,7 +89,7 @@ impl Script {
         Ok(())
     }
 
-    /// Appends the lines that these moves give where the statement comes to this.
+    /// Appends the lines that the moves of `push_moves` give for this outcome of the statement.
     fn push_given(&mut self, alloc: Global, statement: &str, outcome: &str) -> Result<(), Fail> {
         let entry = self.entry;
         let lines = if is_query(statement) {

@@ -26,7 +26,7 @@ fn entry(alloc: Global, number: u64, text: &str) -> Result<Vec<u8>, Fail> {
     Ok(body)
 }
 
-/// A log of three entries, with a marker before the last, and where its gates stand.
+/// A log of three entries, with a marker before the last, and the offsets of its gates.
 fn four_items(alloc: Global) -> Result<(Vec<u8>, Vec<usize>), Fail> {
     let bodies = [
         entry(alloc, 1, CREATE)?,

@@ -16,7 +16,7 @@ use Rattle.cj_script.specs.declared.verb.Verb.{Verb}
 use Rattle.cj_script.specs.declared.verb.Verb.TheVariants.{Open, Close, Write, Abort, Apply, End, Read, Arm, Disable, Replay, Enable, Mark, Dump, Load}
 use Rattle.cj_script.specs.declared.verb.TheConstants.{VERBS}
 
--- one value, and no other, is as the fact says; or none is
+-- the value found is the only one of which the fact holds; if none is found, the fact holds of none
 abbrev pub FindsValue : {A : Type 0} → (A → Type 0) → Option A → Type 0
 FindsValue {A} P None = (x : A) → P x → ⊥
 FindsValue {A} P (Some y) = P y × ((x : A) → P x → x ≡ y)
@@ -50,23 +50,23 @@ word_of Load = codes "load"
 
 -- ---- words
 
--- the first word of a line, and what follows the space behind it, where one is there
+-- the first word of a line, and what follows the space after it, if there is a space
 abbrev pub CutsWord : List ℕ → List ℕ → Option (List ℕ) → Type 0
 CutsWord line word None = HasNoSpace line × (word ≡ line)
 CutsWord line word (Some rest) = HasNoSpace word × (line ≡ word ++ 32 ∷ rest)
 
--- the first space stands here
+-- the first space is at this index
 pub record IsFirstSpace (bytes : List ℕ) (at : ℕ) : Type 0 where
   pub within : at < length bytes
   pub space : slice_index bytes at ≡ 32
   pub word : HasNoSpace (take at bytes)
 
--- the first is no 0, unless it stands alone
+-- the first byte is no 0, unless it is the only one
 abbrev pub begins_number : List ℕ → Bool
 begins_number [] = false
 begins_number (b ∷ z) = not (b == 48) || is_nothing z
 
--- digits that no number leaves out
+-- decimal digits, without a leading zero
 abbrev pub is_numeral : List ℕ → Bool
 is_numeral z = begins_number z && list_all is_ascii_digit z
 
@@ -90,7 +90,7 @@ ReadsOpen rest m = IsUser rest × (m ≡ move.Open rest)
 abbrev pub ReadsClose : List ℕ → Move → Type 0
 ReadsClose rest m = (s : ℕ) × IsNumber rest s × (m ≡ move.Close s)
 
--- a session's number and a write
+-- the arguments are a session's number and a write
 pub record SaysWrite (rest : List ℕ) (m : Move) : Type 0 where
   pub session : ℕ
   pub sql : List ℕ
@@ -102,7 +102,7 @@ pub record SaysWrite (rest : List ℕ) (m : Move) : Type 0 where
 abbrev pub ReadsAbort : List ℕ → Move → Type 0
 ReadsAbort rest m = (tx : ℕ) × IsNumber rest tx × (m ≡ move.Abort tx)
 
--- a session's number, a backend's name and a query
+-- the arguments are a session's number, a backend's name and a query
 pub record Queries (names : List (List ℕ)) (rest : List ℕ) (m : Move) : Type 0 where
   pub session : ℕ
   pub more : List ℕ
@@ -119,23 +119,23 @@ abbrev pub IsQuery : Request → Option Select → Type 0
 IsQuery r None = (x : Select) → r ≡ request.Select x → ⊥
 IsQuery r (Some x) = r ≡ request.Select x
 
--- a backend's name
+-- the argument is a backend's name
 abbrev pub Names : List (List ℕ) → (ℕ → Move) → List ℕ → Move → Type 0
 Names names make rest m = (b : ℕ) × IsBackend names rest b × (m ≡ make b)
 
--- the name of a marker
+-- the argument is the name of a marker
 abbrev pub ReadsMark : List ℕ → Move → Type 0
 ReadsMark rest m = (is_name rest ≡ true) × (m ≡ move.Mark rest)
 
--- a backend's name and that of a dump
+-- the arguments are a backend's name and that of a dump
 abbrev pub NamesBackendAndDump : List (List ℕ) → List ℕ → ℕ × List ℕ → Type 0
 NamesBackendAndDump names rest (b, name) = IsNamed names rest b name × (is_name name ≡ true)
 
--- and the move of these
+-- the arguments are a backend's name and that of a dump, and the move is made of both
 abbrev pub OfDump : List (List ℕ) → (ℕ → List ℕ → Move) → List ℕ → Move → Type 0
 OfDump names make rest m = (b : ℕ) × (name : List ℕ) × NamesBackendAndDump names rest (b, name) × (m ≡ make b name)
 
--- behind this verb and a space these are the arguments of the move
+-- after this verb and a space these are the arguments of the move
 abbrev pub Arguments : List (List ℕ) → Verb → List ℕ → Move → Type 0
 Arguments names Open rest m = ReadsOpen rest m
 Arguments names Close rest m = ReadsClose rest m

@@ -1,4 +1,4 @@
--- Scripts: what lines play, how they lie in the bytes taken, and how far a script came.
+-- Scripts: what lines play, how the lines are found in the bytes taken, and how far a script came.
 use Rattle.std.specs.Prelude.{◌≡◌, ◌≢◌, ◌⊎◌, ℕ, ◌+◌, ◌<◌, ◌≤◌, Bool, true, false, not, List, [], ◌∷◌, ◌++◌, length, take, codes, filter, All, IsSome}
 use Rattle.std.specs.declared.option.Option.{Option}
 use Rattle.std.specs.declared.option.Option.TheVariants.{None, Some}
@@ -29,7 +29,8 @@ use Rattle.cj_script.specs.declared.play.ScriptEnd.TheVariants.{Done, Line, Read
 
 -- ---- lines that play
 
--- The line is a move, which leads from c to z with the faults that backends and the log's store have counted, the backends that were armed, where they can be, and the logins under which backends were called; and these are the lines of what it came to.
+-- The line is a move, which leads the world from c to z and gives these lines. The move says which faults were
+-- counted, which backend was armed, and under which logins backends were called.
 pub record MakesMove (tells armable : Bool) (names : List (List ℕ)) (c : WorldState) (line written : List ℕ) (z : WorldState) : Type 0 where
   pub move : Move
   pub reads : MoveLine names line move
@@ -47,18 +48,19 @@ pub record MakesMove (tells armable : Bool) (names : List (List ℕ)) (c : World
 abbrev pub audit_line : List ℕ
 audit_line = codes "audit"
 
--- An entry is open: nothing is done, and its number is given.
+-- an entry is open: nothing is done, and its number is given
 pub record AuditsLater (c : WorldState) (written : List ℕ) (z : WorldState) : Type 0 where
   pub runs : is_free c.core.history ≡ false
   pub same : z ≡ c
   pub gives : written ≡ with_line_feed (not_now_text (record { reason = EntryOpen; value = last_number c.core }))
 
--- what is given where no backend failed: what they hold, where that is told; or where this one did
+-- what an audit gives: what the backends hold, if contents are visible; or that this backend failed
 abbrev pub GivesAudit : Bool → List (List ℕ) → Core → Option ℕ → List ℕ → Type 0
 GivesAudit tells names c None written = tells ≡ true → written ≡ audit_text names c
 GivesAudit tells names c (Some b) written = (is_enabled c.history b ≡ true) × (written ≡ with_line_feed (codes "failed"))
 
--- No entry is open: the enabled backends are asked what they hold, until one fails, which it counts. No login is used, no backend is armed, and where none fails nothing is done.
+-- No entry is open: the enabled backends are asked what they hold, until one fails, which it counts. No login is
+-- used, no backend is armed, and if none fails nothing changes.
 pub record AuditsNow (tells : Bool) (names : List (List ℕ)) (c : WorldState) (failed : Option ℕ) (written : List ℕ) (z : WorldState) : Type 0 where
   pub idle : is_free c.core.history ≡ true
   pub core : z.core ≡ c.core
@@ -69,13 +71,13 @@ pub record AuditsNow (tells : Bool) (names : List (List ℕ)) (c : WorldState) (
   pub same : failed ≡ None → z ≡ c
   pub gives : GivesAudit tells names c.core failed written
 
--- the line asks for an audit, and this is what it gives, now or not now
+-- the line asks for an audit and gives this, now or not now
 abbrev pub MakesAudit : Bool → List (List ℕ) → WorldState → List ℕ → List ℕ → WorldState → Type 0
 MakesAudit tells names c line written z = (line ≡ audit_line) × (AuditsLater c written z ⊎ ((failed : Option ℕ) × AuditsNow tells names c failed written z))
 
 -- ---- a line
 
--- the line makes its move, or it is an audit
+-- the line makes its move, or is an audit
 abbrev pub DoesLine : (tells armable : Bool) → List (List ℕ) → WorldState → List ℕ → List ℕ → WorldState → Type 0
 DoesLine tells armable names c line written z = MakesMove tells armable names c line written z ⊎ MakesAudit tells names c line written z
 
@@ -89,7 +91,7 @@ pub record SkipsLine (c : WorldState) (line written : List ℕ) (z : WorldState)
 abbrev pub PlaysLine : (tells armable : Bool) → List (List ℕ) → WorldState → List ℕ → List ℕ → WorldState → Type 0
 PlaysLine tells armable names c line written z = SkipsLine c line written z ⊎ DoesLine tells armable names c line written z
 
--- From the state c the lines play, one after another, to the state z, and this is what they give.
+-- From the world c the lines play, one after another, to the world z, and give these lines.
 abbrev pub Plays : (tells armable : Bool) → List (List ℕ) → WorldState → List (List ℕ) → List ℕ → WorldState → Type 0
 Plays tells armable names c [] written z = (written ≡ []) × (z ≡ c)
 Plays tells armable names c (line ∷ lines) written z =
@@ -106,7 +108,7 @@ is_empty (b ∷ bytes) = false
 abbrev pub filled : List (List ℕ) → List (List ℕ)
 filled lines = filter (λ line. not (is_empty line)) lines
 
--- what a line did: a move, and what it came to; or an audit, the backend that failed in it, and what it gave
+-- what a line did: a move and what came of it; or an audit, the backend that failed in it, and what it gave
 pub data Step : Type 0 where
   Moves : Move → Made → Step
   Audits : Option ℕ → List ℕ → Step
@@ -119,13 +121,13 @@ AreSteps names (line ∷ lines) (Audits failed text ∷ steps) = (line ≡ audit
 AreSteps names [] (step ∷ steps) = ⊥
 AreSteps names (line ∷ lines) [] = ⊥
 
--- those that are moves
+-- the moves among the steps
 abbrev pub moves_in : List Step → List Move
 moves_in [] = []
 moves_in (Moves m made ∷ steps) = m ∷ moves_in steps
 moves_in (Audits failed text ∷ steps) = moves_in steps
 
--- and what these gave
+-- the results of the moves among the steps
 abbrev pub given_in : List Step → List MoveResult
 given_in [] = []
 given_in (Moves m made ∷ steps) = given_of made ∷ given_in steps
@@ -136,13 +138,13 @@ abbrev pub step_lines : List (List ℕ) → Step → List ℕ
 step_lines names (Moves m made) = moved_lines names made
 step_lines names (Audits failed text) = text
 
--- the counts after the steps: each fault that one of them tells is counted, one after another
+-- the counts after the steps, of which each counts the fault that it tells
 abbrev pub faults_through : List ℕ → List Step → List ℕ
 faults_through faults [] = faults
 faults_through faults (Moves m made ∷ steps) = faults_through (faults_after faults (blamed m (given_of made))) steps
 faults_through faults (Audits failed text ∷ steps) = faults_through (faults_after faults failed) steps
 
--- the count of the log's store after the steps: each fault that one of them tells is counted, and none else
+-- the count of the log's store after the steps, of which each counts the fault that it tells
 abbrev pub log_faults_through : ℕ → List Step → ℕ
 log_faults_through faults [] = faults
 log_faults_through faults (Moves m made ∷ steps) = log_faults_through (log_faults_after faults (tells_log_fault m (given_of made))) steps
@@ -150,7 +152,8 @@ log_faults_through faults (Audits failed text ∷ steps) = log_faults_through fa
 
 -- ---- lines in bytes
 
--- The bytes are these lines, each with its LF, and a rest; or the last line ends with the bytes, where the source has ended.
+-- The bytes are these lines, each with its LF, and a rest; or the last line ends with the bytes, if the source has
+-- ended.
 abbrev pub LieIn : Option (List ℕ) → List ℕ → List (List ℕ) → List ℕ → Type 0
 LieIn left bytes lines rest = (bytes ≡ flat_map with_line_feed lines ++ rest) ⊎ ((bytes ++ 10 ∷ [] ≡ flat_map with_line_feed lines) × (rest ≡ []) × IsAtEnd left)
 
@@ -167,13 +170,13 @@ IsNextLine left line rest = ((more : List ℕ) × (rest ≡ line ++ 10 ∷ more)
 abbrev pub IsNoMove : List (List ℕ) → List ℕ → Type 0
 IsNoMove names line = ((m : Move) → MoveLine names line m → ⊥) × (line ≢ audit_line)
 
--- the line can't be played: it is too long, or neither empty nor a move's nor an audit
+-- the line can't be played: it is too long, or neither empty nor a move nor an audit
 abbrev pub IsWrong : List (List ℕ) → List ℕ → Type 0
 IsWrong names line = (line_limit < length line) ⊎ ((line ≢ []) × IsNoMove names line)
 
 -- ---- how far a script came
 
--- Of the bytes taken these lines were played, from c to z, and what they give was written; the rest was not played.
+-- These lines of the bytes taken were played, from c to z, and what they give was written; the rest was not played.
 pub record Played (tells armable : Bool) (names : List (List ℕ)) (left left' held held' : Option (List ℕ)) (c : WorldState) (taken : List ℕ) (lines : List (List ℕ)) (rest : List ℕ) (z : WorldState) : Type 0 where
   pub lines_are : All IsShortLine lines
   pub consumed : Consumes left left' taken
@@ -182,7 +185,7 @@ pub record Played (tells armable : Bool) (names : List (List ℕ)) (left left' h
   pub plays : Plays tells armable names c lines written z
   pub appended : Appends held held' written
 
--- the source was taken to its end, as it may be, and all of it was played
+-- the source was taken to its end, and all of it was played
 pub record PlayedAll (tells armable : Bool) (names : List (List ℕ)) (left left' held held' : Option (List ℕ)) (c z : WorldState) : Type 0 where
   pub taken : List ℕ
   pub lines : List (List ℕ)
@@ -190,7 +193,7 @@ pub record PlayedAll (tells armable : Bool) (names : List (List ℕ)) (left left
   pub at_end : IsAtEnd left'
   pub few : IsSome left → length taken < most
 
--- The lines before this one, by its number from 1, were played, and it can't be.
+-- the lines before this one, numbered from 1, were played, and this one can't be
 pub record PlayedTo (tells armable : Bool) (names : List (List ℕ)) (left left' held held' : Option (List ℕ)) (number : ℕ) (c z : WorldState) : Type 0 where
   pub taken : List ℕ
   pub lines : List (List ℕ)
@@ -202,7 +205,7 @@ pub record PlayedTo (tells armable : Bool) (names : List (List ℕ)) (left left'
   pub next : IsNextLine left' line rest
   pub wrong : IsWrong names line
 
--- All whole lines were played, and so many bytes were taken, where the source tells.
+-- all whole lines were played, and so many bytes were taken, if the source tells
 pub record PlayedWhole (tells armable : Bool) (names : List (List ℕ)) (left left' held held' : Option (List ℕ)) (IsCount : ℕ → Type 0) (c z : WorldState) : Type 0 where
   pub taken : List ℕ
   pub lines : List (List ℕ)
@@ -211,7 +214,7 @@ pub record PlayedWhole (tells armable : Bool) (names : List (List ℕ)) (left le
   pub inside : IsInLine rest
   pub count : IsSome left → IsCount (length taken)
 
--- Some lines were played; what wanted memory then left nothing, but maybe bytes behind the items of the log.
+-- Some lines were played. What ran out of memory then changed nothing, but maybe bytes after the items of the log.
 pub record PlayedSome (tells armable : Bool) (names : List (List ℕ)) (left left' held held' : Option (List ℕ)) (c z : WorldState) : Type 0 where
   pub taken : List ℕ
   pub lines : List (List ℕ)
@@ -221,7 +224,7 @@ pub record PlayedSome (tells armable : Bool) (names : List (List ℕ)) (left lef
   pub same : IsSameWorldButLog stopped z
   pub log_faults : z.recovery_log.faults ≡ stopped.recovery_log.faults
 
--- The line makes its move or is an audit, and of what it gives a front was written, which is not the whole.
+-- the line makes its move or is an audit, and a part of what it gives was written, less than the whole
 pub record MakesInPart (tells armable : Bool) (names : List (List ℕ)) (held held' : Option (List ℕ)) (c : WorldState) (line : List ℕ) (z : WorldState) : Type 0 where
   pub whole : List ℕ
   pub makes : DoesLine tells armable names c line whole z
@@ -229,7 +232,7 @@ pub record MakesInPart (tells armable : Bool) (names : List (List ℕ)) (held he
   pub cut : count < length whole
   pub appended : Appends held held' (take count whole)
 
--- Some lines were played, and one more made its move or was an audit, with what it gives written in part.
+-- some lines were played, and one more made its move or was an audit, with what it gives written in part
 pub record PlayedInPart (tells armable : Bool) (names : List (List ℕ)) (left left' held held' : Option (List ℕ)) (c z : WorldState) : Type 0 where
   pub taken : List ℕ
   pub lines : List (List ℕ)
@@ -242,7 +245,7 @@ pub record PlayedInPart (tells armable : Bool) (names : List (List ℕ)) (left l
   pub next : IsNextLine left' line rest
   pub makes : MakesInPart tells armable names between held' mid line z
 
--- How far a script came that ended so. Where the source or the sink tells nothing, this says nothing of its bytes.
+-- How far a script came that ended in this way. Of a source or a sink that hides its bytes, this says nothing.
 abbrev pub CameTo : (tells armable : Bool) → List (List ℕ) → (left left' held held' : Option (List ℕ)) → WorldState → ScriptEnd → WorldState → Type 0
 CameTo tells armable names left left' held held' c Done z = PlayedAll tells armable names left left' held held' c z
 CameTo tells armable names left left' held held' c (Line number) z = PlayedTo tells armable names left left' held held' number c z
@@ -253,7 +256,8 @@ CameTo tells armable names left left' held held' c NoMemory z = PlayedSome tells
 
 -- ---- what the replies are
 
--- Of the bytes taken these lines, but for empty ones, took these steps, and a front of what they gave was written. The replies to each session in the moves among them are a chain of turns from what it had seen.
+-- Each line taken that is not empty took one of these steps, and a front of what they gave was written. The replies
+-- to each session in the moves among them are a chain of turns from what it had seen.
 pub record InTurns (tells : Bool) (names : List (List ℕ)) (left left' held held' : Option (List ℕ)) (c z : WorldState) : Type 0 where
   pub taken : List ℕ
   pub lines : List (List ℕ)

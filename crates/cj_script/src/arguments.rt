@@ -1,4 +1,4 @@
-//! What follows the first word of a line.
+//! What follows the first word of a line. Each function reads the arguments of one verb, without the verb.
 
 ghost use Rattle.std.specs.Prelude.{◌≡◌, ◌≤◌, ◌<◌, ◌↔◌, length, IfOk, IsTrue, is_some};
 ghost use Rattle.cj_model.specs.Sql.PlainRequests.{act_of};
@@ -18,7 +18,7 @@ fn is_short(word: &[u8]) -> bool
     !word.is_empty() && word.len() <= USER_LIMIT
 }
 
-/// "open USER"
+/// Reads `open USER`.
 fn open(alloc: Global, rest: &[u8]) -> Result<Option<Move>, NoMemory>
     ensures { IfOk result (FindsValue (ReadsOpen rest.now)) }
 {
@@ -31,7 +31,7 @@ fn open(alloc: Global, rest: &[u8]) -> Result<Option<Move>, NoMemory>
     }
 }
 
-/// "close S"
+/// Reads `close S`.
 fn close(rest: &[u8]) -> Option<Move>
     ensures { FindsValue (ReadsClose rest.now) result }
 {
@@ -41,7 +41,7 @@ fn close(rest: &[u8]) -> Option<Move>
     }
 }
 
-/// The request of a text, which may call neither the clock nor random numbers.
+/// Reads a text as a request, which may call neither the clock nor random numbers.
 fn plain_request(alloc: Global, sql: &[u8]) -> Result<Option<Request>, NoMemory>
     ensures { IfOk result (FindsValue (IsPlainSql sql.now)) }
 {
@@ -84,7 +84,7 @@ fn plain_write(alloc: Global, sql: &[u8]) -> Result<Option<Request>, NoMemory>
     }
 }
 
-/// "write S SQL"
+/// Reads `write S SQL`.
 fn write(alloc: Global, rest: &[u8]) -> Result<Option<Move>, NoMemory>
     ensures { IfOk result (FindsValue (SaysWrite rest.now)) }
 {
@@ -97,7 +97,7 @@ fn write(alloc: Global, rest: &[u8]) -> Result<Option<Move>, NoMemory>
     }
 }
 
-/// "abort TX"
+/// Reads `abort TX`.
 fn abort(rest: &[u8]) -> Option<Move>
     ensures { FindsValue (ReadsAbort rest.now) result }
 {
@@ -107,7 +107,7 @@ fn abort(rest: &[u8]) -> Option<Move>
     }
 }
 
-/// The query that a request is.
+/// Returns the query that a request is, if it is one.
 fn as_query(request: Request) -> Option<Select>
     ensures { IsQuery request result }
 {
@@ -126,7 +126,7 @@ fn plain_query(alloc: Global, sql: &[u8]) -> Result<Option<Select>, NoMemory>
     }
 }
 
-/// "read S B SQL"
+/// Reads `read S B SQL`.
 fn query(alloc: Global, names: &Names, rest: &[u8]) -> Result<Option<Move>, NoMemory>
     requires { length names.now ≤ BACKEND_LIMIT }
     ensures { IfOk result (FindsValue (Queries names.now rest.now)) }
@@ -143,7 +143,7 @@ fn query(alloc: Global, names: &Names, rest: &[u8]) -> Result<Option<Move>, NoMe
     }
 }
 
-/// "mark NAME"
+/// Reads `mark NAME`.
 fn mark(rest: &[u8]) -> Option<Move>
     ensures { FindsValue (ReadsMark rest.now) result }
 {
@@ -153,7 +153,7 @@ fn mark(rest: &[u8]) -> Option<Move>
     }
 }
 
-/// "B NAME"
+/// Reads a backend's name and a dump's name, as in `dump B NAME` and `load B NAME`.
 fn dump_named(names: &Names, rest: &[u8]) -> Option<(u8, Name)>
     requires { length names.now ≤ BACKEND_LIMIT }
     ensures { FindsValue (NamesBackendAndDump names.now rest.now) result }
@@ -167,7 +167,7 @@ fn dump_named(names: &Names, rest: &[u8]) -> Option<(u8, Name)>
     }
 }
 
-/// "dump B NAME"
+/// Reads `dump B NAME`.
 fn dump(names: &Names, rest: &[u8]) -> Option<Move>
     requires { length names.now ≤ BACKEND_LIMIT }
     ensures { FindsValue (OfDump names.now Move.Dump rest.now) result }
@@ -178,7 +178,7 @@ fn dump(names: &Names, rest: &[u8]) -> Option<Move>
     }
 }
 
-/// "load B NAME"
+/// Reads `load B NAME`.
 fn load(names: &Names, rest: &[u8]) -> Option<Move>
     requires { length names.now ≤ BACKEND_LIMIT }
     ensures { FindsValue (OfDump names.now Move.Load rest.now) result }
@@ -189,7 +189,8 @@ fn load(names: &Names, rest: &[u8]) -> Option<Move>
     }
 }
 
-/// What follows the word of the verb and a space, as a move.
+/// Reads what follows a verb and a space, and returns the move, or `None` if it is no move's.
+/// `names` are those of the backends. `NoMemory` is the only error.
 pub fn arguments(
     alloc: Global,
     names: &Names,

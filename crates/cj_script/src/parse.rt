@@ -11,7 +11,7 @@ use cj_cluster::Move;
 use cj_model::{BACKEND_LIMIT, Names, NoMemory};
 use std::alloc::Global;
 
-/// The move of a line that is one word.
+/// Returns the move of a line that is one word.
 fn lone(word: &[u8]) -> Option<Move>
     ensures { FindsValue (IsOneWordMove word.now) result }
 {
@@ -22,7 +22,8 @@ fn lone(word: &[u8]) -> Option<Move>
     }
 }
 
-/// The move of a line, which is given without its LF; none exactly where it is no move's line. Backends go by their names.
+/// Returns the move of a line, which is given without its LF, or `None` exactly if the line is no
+/// move's. `names` are those of the backends. `NoMemory` is the only error.
 pub fn parse_move(alloc: Global, names: &Names, line: &[u8]) -> Result<Option<Move>, NoMemory>
     requires { length names.now ≤ BACKEND_LIMIT }
     ensures { IfOk result (FindsValue (MoveLine names.now line.now)) }

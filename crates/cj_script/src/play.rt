@@ -1,4 +1,4 @@
-//! The loop of a script: lines of moves from a source, what they come to into a sink.
+//! The loop of a script: takes lines from a source, plays them, and writes what they give to a sink.
 
 ghost use Rattle.std.specs.Prelude.{◌≡◌, ◌≤◌, ◌^◌, ℕ, IfOk, IsErrOf, MatchResult, length};
 ghost use Rattle.cj_outside.specs.Causes.{CountsFault};
@@ -25,7 +25,7 @@ use std::alloc::Global;
 pub enum ScriptEnd {
     /// All lines were played.
     Done,
-    /// This line, counted from 1, is too long, or neither empty nor a move's nor an audit.
+    /// This line, counted from 1, is too long, or neither empty nor a move nor an audit.
     Line(u64),
     /// The source failed.
     ReadFault,
@@ -33,11 +33,11 @@ pub enum ScriptEnd {
     WriteFault,
     /// `MOST` bytes were taken, and the source has not ended.
     Spent,
-    /// Memory was wanting.
+    /// Memory ran out.
     NoMemory,
 }
 
-/// The next line, or how the script ends in place of it.
+/// Returns the next line, or how the script ends if there is none.
 fn read_line<I: Source>(
     alloc: Global,
     lines: &mut Lines,
@@ -60,7 +60,7 @@ fn read_line<I: Source>(
     }
 }
 
-/// Writes the lines of what a move came to.
+/// Writes the lines that a move gives.
 fn write_made<O: Sink>(
     alloc: Global,
     names: &Names,
@@ -76,7 +76,7 @@ fn write_made<O: Sink>(
     }
 }
 
-/// How a line ends of which the lines that it gives were written, or were not.
+/// Returns how the script ends, if the lines that a line gives weren't written.
 fn written_or_end(written: Result<(), OutError>) -> Result<(), ScriptEnd>
     ensures { result ≡ steps.written_or_end written }
 {
@@ -87,7 +87,8 @@ fn written_or_end(written: Result<(), OutError>) -> Result<(), ScriptEnd>
     }
 }
 
-/// Asks the enabled backends what they hold, and writes it; or writes that an entry is open, or that a backend failed.
+/// Asks the enabled backends what they hold, and writes it. If an entry is open or a backend fails,
+/// that is written instead.
 fn play_audit<B: Backend, S: Store, O: Sink>(
     alloc: Global,
     world: &mut World<B, S>,
@@ -112,7 +113,7 @@ fn play_audit<B: Backend, S: Store, O: Sink>(
     }
 }
 
-/// Plays a line, or answers how the script ends in it.
+/// Plays a line, or returns how the script ends in it.
 fn play_line<B: Backend, S: Store, O: Sink>(
     alloc: Global,
     world: &mut World<B, S>,
@@ -143,11 +144,12 @@ fn play_line<B: Backend, S: Store, O: Sink>(
     written_or_end(write_made(alloc, world.placement().names(), &made, output))
 }
 
-/// Plays the lines of the source, each a move on the world or an audit of it, and writes what they come to. Backends go by the names that the
-/// world has for them.
+/// Plays the lines of the source, each a move of the world or an audit of it, and writes what they
+/// give. Backends go by the names that the world has for them.
 ///
-/// A line that can't be played ends the script, and so do a fault and want of memory. What was played and written until then stays.
-/// The replies to each session are turns of one database, whatever the end.
+/// A line that can't be played ends the script, and so does a fault of a stream or of memory. What
+/// was played and written until then stays. The replies to each session are turns of one database,
+/// whatever the end.
 pub fn script<B: Backend, S: Store, I: Source, O: Sink>(
     alloc: Global,
     world: &mut World<B, S>,

@@ -1,4 +1,4 @@
-//! The lines of what a move came to.
+//! The lines that a move gives.
 
 ghost use Rattle.std.specs.Prelude.{◌≡◌, [], ◌∷◌, ◌++◌, IfOk, OnOk, string_bytes};
 ghost use Rattle.std.specs.List.{flat_map};
@@ -45,7 +45,7 @@ fn reply_words(alloc: Global, reply: &Reply) -> Result<String, NoMemory>
     }
 }
 
-/// The name of backend b; none where there is no such backend.
+/// Returns the name of backend `b`, or nothing if there is no such backend.
 fn name_at(names: &Names, b: u8) -> &[u8]
     ensures { result.now ≡ lines.name_at names.now b }
 {
@@ -99,7 +99,7 @@ fn moved_words(alloc: Global, names: &Names, moved: &Moved) -> Result<Vec<u8>, N
     }
 }
 
-/// Adds the values' literals, with a comma and a space between each two.
+/// Appends the values' literals, with a comma and a space between each two.
 fn append_row(alloc: Global, lines: &mut Vec<u8>, mut values: &[Value]) -> Result<(), NoMemory>
     ensures { OnOk result (lines.new.items ≡ lines.old.items ++ row_text values.entry.now) }
 {
@@ -113,7 +113,7 @@ fn append_row(alloc: Global, lines: &mut Vec<u8>, mut values: &[Value]) -> Resul
     Ok(())
 }
 
-/// Adds a line for each of the rows.
+/// Appends a line for each of the rows.
 fn append_rows(alloc: Global, lines: &mut Vec<u8>, rows: &AnswerRows) -> Result<(), NoMemory>
     ensures { OnOk result (lines.new.items ≡ lines.old.items ++ flat_map (λ row. with_line_feed (row_text row)) rows.now) }
 {
@@ -143,7 +143,8 @@ fn print_not_now(alloc: Global, why: &Why) -> Result<Vec<u8>, NoMemory>
     Ok(format!(in alloc; "not now {number} {value}\n")?.into_bytes())
 }
 
-/// The lines of what a move came to. Backends go by their names.
+/// Returns the lines that a move gives. `names` are those of the backends. `NoMemory` is the only
+/// error.
 pub fn print_made(alloc: Global, names: &Names, made: &Made) -> Result<Vec<u8>, NoMemory>
     ensures { IfOk result (λ lines. lines.items ≡ moved_lines names.now made.now) }
 {

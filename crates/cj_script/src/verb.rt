@@ -52,7 +52,7 @@ fn lookup(mut table: &[(&[u8], Verb)], word: &[u8]) -> Option<Verb>
     None
 }
 
-/// The verb that the word is.
+/// Returns the verb that the word is, if it is one.
 #[tactic(auto, unfolding(crate::specs::Reading::verb_of))]
 pub fn verb_of(word: &[u8]) -> Option<Verb>
     ensures { result ≡ spec.verb_of word.now }

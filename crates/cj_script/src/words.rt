@@ -1,4 +1,4 @@
-//! Words of a line: what stands between spaces.
+//! The words of a line: what is between spaces.
 
 ghost use Rattle.std.specs.Prelude.{◌≡◌, ◌↔◌, ◌≤◌, ℕ, List, length, position, IsTrue, MatchOption};
 ghost use Rattle.std.specs.Char.{is_ascii_digit};
@@ -11,7 +11,7 @@ ghost use Rattle.cj_script.specs.Reading as spec;
 
 use cj_model::{BACKEND_LIMIT, Name, Names};
 
-/// The place of the first space.
+/// Returns the index of the first space, if there is one.
 fn first_space(bytes: &[u8]) -> Option<usize>
     ensures { MatchOption result (HasNoSpace bytes.now) (λ at. IsFirstSpace bytes.now at) }
 {
@@ -23,14 +23,14 @@ fn first_space(bytes: &[u8]) -> Option<usize>
     None
 }
 
-/// Whether the bytes are without a space.
+/// Whether the bytes have no space.
 pub fn is_word(bytes: &[u8]) -> bool
     ensures { IsTrue result ↔ HasNoSpace bytes.now }
 {
     first_space(bytes).is_none()
 }
 
-/// The first word, and what follows the space behind it.
+/// Returns the first word of a line, and what follows the space after it, if there is a space.
 pub fn cut(line: &[u8]) -> (&[u8], Option<&[u8]>)
     ensures { CutsWord line.now result.0.now (option_copied result.1) }
 {
@@ -59,14 +59,14 @@ fn are_digits(word: &[u8]) -> bool
     word.iter().all(|b| b.is_ascii_digit())
 }
 
-/// Whether the word is how a number is written.
+/// Whether the word is how a number is written: decimal digits, without a leading zero.
 fn is_numeral(word: &[u8]) -> bool
     ensures { result ≡ spec.is_numeral word.now }
 {
     begins_number(word) && are_digits(word)
 }
 
-/// The number of a word.
+/// Returns the number that the word is, if it is one and a `u64`.
 pub fn number(word: &[u8]) -> Option<u64>
     ensures { FindsValue (IsNumber word.now) result }
 {
@@ -82,7 +82,7 @@ pub fn number(word: &[u8]) -> Option<u64>
     }
 }
 
-/// The number of the first word, and what follows it.
+/// Returns the number that the first word is, and what follows the space after it.
 pub fn numbered(rest: &[u8]) -> Option<(u64, &[u8])>
     ensures { MatchOption result ((n : ℕ) → (more : List ℕ) → IsNumbered rest.now n more → ⊥) (λ found. IsNumbered rest.now found.0 found.1.now) }
 {
@@ -95,14 +95,14 @@ pub fn numbered(rest: &[u8]) -> Option<(u64, &[u8])>
     }
 }
 
-/// The place of the first name that is the word.
+/// Returns the index of the first name that is the word.
 fn place_of(names: &[Name], word: &[u8]) -> Option<usize>
     ensures { result ≡ position (bytes_eq word.now) names.now }
 {
     names.iter().position(|name| word == name.as_slice())
 }
 
-/// The first backend of this name.
+/// Returns the number of the first backend of this name, if there is one.
 pub fn backend(names: &Names, word: &[u8]) -> Option<u8>
     requires { length names.now ≤ BACKEND_LIMIT }
     ensures { FindsValue (IsBackend names.now word.now) result }
@@ -116,7 +116,8 @@ pub fn backend(names: &Names, word: &[u8]) -> Option<u8>
     }
 }
 
-/// The backend that the first word names, and what follows it.
+/// Returns the number of the backend that the first word names, and what follows the space after
+/// it.
 pub fn named<'a>(names: &Names, rest: &'a [u8]) -> Option<(u8, &'a [u8])>
     requires { length names.now ≤ BACKEND_LIMIT }
     ensures { MatchOption result ((b : ℕ) → (more : List ℕ) → IsNamed names.now rest.now b more → ⊥) (λ found. IsNamed names.now rest.now found.0 found.1.now) }

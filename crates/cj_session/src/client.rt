@@ -35,10 +35,10 @@ use cj_outside::{Clock, Draw, OutError, Sink};
 use cj_sql::{SqlError, read};
 use std::alloc::Global;
 
-/// Who is served.
+/// A client at a desk.
 #[derive(Drop)]
 pub struct Client {
-    /// The user that logged in.
+    /// The user that logged in, if one did.
     pub user: Option<Text>,
     /// The session's open transaction, or 0.
     pub tx: u64,
@@ -50,7 +50,7 @@ fn refused(code: u16) -> Reply
     Reply::Refused(Refusal::of_code(code))
 }
 
-/// The request of the text, or why it never reaches the desk.
+/// Returns the request of the text, or the refusal of a text that never reaches the desk.
 fn statement(alloc: Global, tx: u64, text: &[u8]) -> Result<Request, Refusal>
     ensures { MatchResult result (λ request. TextReadsAs text.now request × (transcripts.refusal_by_transaction tx (act_of request) ≡ None)) (λ refusal. IsRefusedBefore tx text.now (replies.Refused refusal)) }
 {
@@ -132,7 +132,7 @@ impl Client {
         }
     }
 
-    /// The reply to a message that is no Quit.
+    /// Returns the reply to a message that is no Quit.
     fn answer<R, K: Desk<R>, C: Clock, D: Draw>(
         &mut self,
         rt: &R,
@@ -161,7 +161,8 @@ impl Client {
         }
     }
 
-    /// Answers a message that is no Quit, and writes the reply.
+    /// Answers a message that is no Quit, and writes the reply. After an error a part of the reply
+    /// may be written. `Failed` is a fault that the sink counted.
     pub fn exchange<R, K: Desk<R>, O: Sink, C: Clock, D: Draw>(
         &mut self,
         rt: &R,
@@ -185,7 +186,8 @@ impl Client {
         send(alloc, output, &reply)
     }
 
-    /// Rolls back what is open.
+    /// Asks the desk to roll back the open transaction, if there is one. The desk's reply is
+    /// dropped.
     pub fn leave<R, K: Desk<R>>(&self, rt: &R, desk: &mut K)
         requires at { IsClientAt self.now.user self.now.tx (K.state_of desk.old) }
         requires room { (K.state_of desk.old).requests < REQUEST_LIMIT }

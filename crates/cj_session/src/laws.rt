@@ -10,7 +10,8 @@ ghost use Rattle.cj_desk.specs.SessionTranscripts.{setting, ClientState, Session
 
 use cj_desk::Desk;
 
-/// At a desk that is deterministic, with a clock that tells, the bytes taken fix the bytes written and how the desk is left, unless memory is wanting.
+/// At a deterministic desk, with a clock that tells its moment, the bytes taken determine the bytes
+/// written and the desk afterwards. Sessions in which memory ran out are left out.
 pub fn bytes_have_one_session_transcript<R, K: Desk<R>, T>()
     ensures { IsDeterministic K.leads_to → (drawn : T → ℕ → ℕ) (later : T → ℕ → T) (moment : ℤ) (a : ClientState K T) (taken written other : List ℕ) (ending last : SessionEnd) (desk final : K) (draws after : T) →
         (x : SessionTranscript (setting K.state_of K.leads_to drawn later (Some moment)) a taken written ending desk draws) →

@@ -17,7 +17,7 @@ use cj_outside::{OutError, Sink, write_all};
 use cj_reply::{ReplyError, encode, encode_done, encode_refused, encode_stats};
 use std::alloc::Global;
 
-/// What stands in the place of a reply that has no frame.
+/// Returns the refusal that is sent instead of a reply without a frame.
 fn refusal_in_place(error: ReplyError) -> Refusal
     ensures { result ≡ points.refusal_in_place error }
 {
@@ -51,7 +51,9 @@ fn send_rows<O: Sink>(alloc: Global, output: &mut O, reply: &Reply) -> Result<()
     }
 }
 
-/// Writes the frame of the reply; where that is too large or finds no memory, a refusal in its place.
+/// Writes the frame of the reply. A reply that is too large, or for whose frame memory runs out, is
+/// replaced by a refusal. After an error a part of the frame may be written. `Failed` is a fault
+/// that the sink counted.
 pub fn send<O: Sink>(alloc: Global, output: &mut O, reply: &Reply) -> Result<(), OutError>
     requires { IsSendable reply.now }
     ensures bytes { SendsReplyTo (O.held output.old) (O.held output.new) reply.now result }
@@ -75,7 +77,8 @@ fn bad_frame(fault: FrameFault) -> Refusal
     }
 }
 
-/// Refuses a faulty frame, which ends the session.
+/// Writes the refusal of a faulty frame, which ends the session. Returns how it ends: with the
+/// fault, or with the error of writing.
 pub fn refuse<O: Sink>(output: &mut O, fault: FrameFault) -> SessionEnd
     ensures bytes { RefusesFrame (O.held output.old) (O.held output.new) fault result }
     ensures cause { CountsFault (result ≡ SessionEnd.WriteFault) (O.faults output.old) (O.faults output.new) }

@@ -20,7 +20,7 @@ use cj_model::Message;
 use cj_outside::{Clock, Draw, MOST, OutError, Sink, Source};
 use std::alloc::Global;
 
-/// The most bytes that are taken at a call.
+/// The most bytes that one call takes.
 const PIECE: usize = 4096;
 
 fn is_quit(message: &Message) -> bool
@@ -29,7 +29,7 @@ fn is_quit(message: &Message) -> bool
     matches!(message, Message::Quit)
 }
 
-/// How a session ends whose source has ended, with so many bytes held.
+/// Returns how a session ends whose source has ended, while so many bytes are held.
 fn end_at(held: u64) -> SessionEnd
     ensures eof { held ≡ 0 → result ≡ SessionEnd.Eof }
     ensures cut { 0 < held → result ≡ SessionEnd.Cut }
@@ -41,7 +41,7 @@ fn end_at(held: u64) -> SessionEnd
     }
 }
 
-/// Takes the next piece of the source. Answers how the session ends where none came.
+/// Takes the next piece of the source. Returns how the session ends if none came.
 fn fill<I: Source>(feed: &mut Feed, taken: &mut u64, input: &mut I) -> Option<SessionEnd>
     requires { taken.old ≤ most }
     ensures bytes { FillsFeed (I.left input.old) (I.left input.new) feed.old feed.new taken.old taken.new result }
@@ -77,7 +77,8 @@ pub struct Session {
 }
 
 impl Session {
-    /// Answers the next message; where none is whole, takes a piece of the input. Answers how the session ends, if it does.
+    /// Answers the next message, or takes a piece of the input if none is whole. Returns how the
+    /// session ends, if it does.
     fn step<R, K: Desk<R>, I: Source, O: Sink, C: Clock, D: Draw>(
         &mut self,
         rt: &R,
@@ -124,7 +125,7 @@ impl Session {
         }
     }
 
-    /// Answers messages as long as there are any.
+    /// Answers messages until the session ends, and returns how it ends.
     fn answer_all<R, K: Desk<R>, I: Source, O: Sink, C: Clock, D: Draw>(
         &mut self,
         rt: &R,
@@ -155,9 +156,12 @@ impl Session {
     }
 }
 
-/// Serves one session at a desk: takes the input in pieces of at most 4096 bytes, and writes the reply to each message before more is taken.
+/// Serves one session at a desk, and returns how it ended. It takes the input in pieces of at most
+/// 4096 bytes, and writes the reply to each message before it takes more. At most `MOST` bytes are
+/// taken.
 ///
-/// An open transaction is rolled back at every end.
+/// At every end the desk is asked to roll back an open transaction. `ReadFault` and `WriteFault`
+/// are faults that the source or the sink counted.
 pub fn serve_session<R, K: Desk<R>, I: Source, O: Sink, C: Clock, D: Draw>(
     rt: &R,
     alloc: Global,

@@ -15,7 +15,7 @@ use cj_macro::rewrite;
 use cj_model::{Act, Reply, Request, Text};
 use cj_outside::{Clock, Draw};
 
-/// A write in the session's transaction, with the transaction after it.
+/// Makes a write in the session's transaction, and returns the transaction after it with the reply.
 fn change<R, K: Desk<R>>(rt: &R, desk: &mut K, user: &Text, tx: u64, act: Act) -> (u64, Reply)
     requires can { CanAskDesk (K.state_of desk.old) user.now (request_of act) }
     requires tx { tx ≡ desk_tx (K.state_of desk.old) }
@@ -28,7 +28,8 @@ fn change<R, K: Desk<R>>(rt: &R, desk: &mut K, user: &Text, tx: u64, act: Act) -
     (effect.tx_after(written.number, tx), written.reply)
 }
 
-/// The turn of a request with values in place of its calls, with the session's transaction after it.
+/// Makes the turn of a request, whose calls of clock and random numbers are replaced by values.
+/// Returns the session's transaction after it, 0 for none, and the reply.
 pub fn turn<R, K: Desk<R>, C: Clock, D: Draw>(
     rt: &R,
     desk: &mut K,

@@ -14,9 +14,9 @@ use cj_model::{
 /// What a request asks of a desk.
 #[derive(Drop)]
 pub enum DeskWork {
-    /// To read.
+    /// A read.
     Ask(Select),
-    /// To write.
+    /// A write.
     Change(Act),
 }
 
@@ -28,6 +28,7 @@ pub enum TxEffect {
     Keeps,
 }
 
+/// Returns what a request asks of a desk.
 pub fn work_of(request: Request) -> DeskWork
     ensures { request_of_work result ≡ request }
 {
@@ -42,7 +43,7 @@ pub fn work_of(request: Request) -> DeskWork
     }
 }
 
-/// The refusal of what may not stand inside a transaction.
+/// Refuses what isn't allowed inside a transaction, if `tx` is one.
 fn refusal_inside(code: u16, tx: u64) -> Option<Refusal>
     ensures { result ≡ (if tx == 0 then None else Some (record { code = code; a = tx; b = 0 })) }
 {
@@ -53,7 +54,7 @@ fn refusal_inside(code: u16, tx: u64) -> Option<Refusal>
     }
 }
 
-/// The refusal of what may not stand outside of one.
+/// Refuses what is allowed only inside a transaction, if `tx` is 0.
 fn refusal_outside(tx: u64) -> Option<Refusal>
     ensures { result ≡ (if tx == 0 then Some (refusal_of_code NO_TRANSACTION) else None) }
 {
@@ -64,7 +65,8 @@ fn refusal_outside(tx: u64) -> Option<Refusal>
     }
 }
 
-/// What the state of the session's transaction forbids.
+/// Returns the refusal of a request that the session's transaction `tx` forbids, 0 for none, or
+/// `None`.
 pub fn refusal_by_transaction(tx: u64, request: &Request) -> Option<Refusal>
     ensures { result ≡ transcripts.refusal_by_transaction tx (act_of request.now) }
 {
@@ -79,6 +81,7 @@ pub fn refusal_by_transaction(tx: u64, request: &Request) -> Option<Refusal>
     }
 }
 
+/// Returns what an act does to the transaction of its session.
 pub fn effect_of(act: &Act) -> TxEffect
     ensures { (n tx : ℕ) → tx_by_effect n tx result ≡ tx_after_entry n tx act.now }
 {
@@ -93,7 +96,8 @@ pub fn effect_of(act: &Act) -> TxEffect
 }
 
 impl TxEffect {
-    /// The session's transaction after an entry of this number; 0 stands for none.
+    /// Returns the session's transaction after an entry of this number. A number of 0 means no
+    /// entry, and a transaction of 0 means none.
     pub fn tx_after(self, number: u64, tx: u64) -> u64
         ensures { result ≡ (if number == 0 then tx else tx_by_effect number tx self) }
     {

@@ -18,20 +18,20 @@ use Rattle.cj_shelf.specs.declared.error.ShelfError.TheVariants as errors
 use Rattle.cj_shelf.specs.declared.label.Label.{Label}
 use Rattle.cj_shelf.specs.Shelves.{shelf_magic, bodies_of, names_of, is_among, IsNoDump, BadIn}
 
--- how refusals of records are told on
+-- the error of a shelf for an error of its records
 abbrev pub of_records : RecordsError → ShelfError
 of_records records.Failed = errors.Failed
 of_records (records.BadRecord offset) = errors.BadRecord offset
 of_records records.NoMemory = errors.NoMemory
 
--- how a record is refused whose gate is at the offset, by why its body is no dump's
+-- the error for a record with its gate at the offset, whose body was not decoded
 abbrev pub refusal_at : ℕ → DumpError → ShelfError
 refusal_at at (decoding.Cut _) = errors.BadRecord at
 refusal_at at (decoding.BadField _) = errors.BadRecord at
 refusal_at at (decoding.Order _) = errors.BadRecord at
 refusal_at at decoding.NoMemory = errors.NoMemory
 
--- the reason is no bad record, which no shelf over a store that tells its bytes gives once it is open
+-- the error is no bad record; a shelf that is open over a store that tells its bytes gives none
 abbrev pub IsNoBadRecord : ShelfError → Type 0
 IsNoBadRecord errors.Failed = Unit {0}
 IsNoBadRecord (errors.BadRecord _) = ⊥
@@ -43,19 +43,19 @@ IsNoBadRecord errors.NoMemory = Unit {0}
 abbrev pub labelled : List Label → List (List ℕ)
 labelled labels = map (λ (label : Label). label.name) labels
 
--- the first place at which the name stands, or none where it is not among them
+-- the index of the first of the names that is this one, or none if it is not among them
 abbrev pub IsFirstPlace : List ℕ → List (List ℕ) → Option ℕ → Type 0
 IsFirstPlace name names (Some place) = (slice_get names place ≡ Some name) × (is_among name (take place names) ≡ false)
 IsFirstPlace name names None = is_among name names ≡ false
 
 -- ---- dumps of bodies
 
--- what was read of a body, in a list
+-- the dump that was read of a body, as a list of at most one
 abbrev pub read_dump : FieldReading Dump → List Dump
 read_dump (Ok x) = x.0 ∷ []
 read_dump (Err e) = []
 
--- the dumps that these bodies begin with
+-- the dumps of these bodies, without the bodies that are no dump's
 abbrev pub dumps_in : List (List ℕ) → List Dump
 dumps_in [] = []
 dumps_in (body ∷ bodies) = read_dump (dump.reads (start_of body)) ++ dumps_in bodies
@@ -83,7 +83,7 @@ pub record AgreesWithRecords {S : Type 0} (tells : Bool) (records : RecordList S
   pub labels : tells ≡ true → Labels records.list kept
   pub refused : tells ≡ true → records.torn ≡ true → IsBody records.refused
 
--- the dump of a body whose record is at the offset, or that it is the body of none, unless memory ran out
+-- the body is that of the dump, or it is the body of none and the record's offset is told, unless memory ran out
 abbrev pub FindsDump : List ℕ → ℕ → Result Dump ShelfError → Type 0
 FindsDump body at (Ok d) = (body ≡ dump_bytes d) × IsDump d
 FindsDump body at (Err (errors.BadRecord offset)) = IsNoDump body × (offset ≡ at)

@@ -11,7 +11,9 @@ use Rattle.cj_dump.specs.Dumps.{dump_bytes, IsDump}
 use Rattle.cj_shelf.specs.declared.error.ShelfError.{ShelfError}
 use Rattle.cj_shelf.specs.declared.error.ShelfError.TheVariants as errors
 
--- What contracts see of a shelf: its store, the names of its dumps in order, the dumps that the store keeps, whether the gate behind them is torn, and the body that was refused then. Where the store tells nothing, the names alone are known.
+-- What contracts see of a shelf: its store, the names of its dumps in order, the dumps that the store keeps, whether
+-- the gate after them is torn, and the body that was refused then. If the store tells nothing, only the names are
+-- known.
 pub record ShelfState (S : Type 0) : Type 0 where
   pub store : S
   pub names : List (List ℕ)
@@ -34,7 +36,7 @@ pub record KeepsDumps (bytes : List ℕ) (dumps : List Dump) : Type 0 where
   pub found : Finds shelf_magic bytes (Ok (bodies_of dumps))
   pub each : AllByRecursion IsDump dumps
 
--- the bytes have the dumps; while the gate behind them is torn maybe one more, the one that was refused
+-- the bytes have the dumps; while the gate after them is torn maybe one more, the one that was refused
 abbrev pub KeepsAtLeast : List ℕ → List Dump → Bool → Type 0
 KeepsAtLeast bytes dumps torn = KeepsDumps bytes dumps ⊎ (torn ≡ true) × (refused : Dump) × KeepsDumps bytes (dumps ++ refused ∷ [])
 
@@ -42,7 +44,7 @@ KeepsAtLeast bytes dumps torn = KeepsDumps bytes dumps ⊎ (torn ≡ true) × (r
 abbrev pub IsNoDump : List ℕ → Type 0
 IsNoDump body = (d : Dump) → IsDump d → body ≢ dump_bytes d
 
--- a body that is no dump's, behind those of these dumps
+-- a body that is no dump's, after those of these dumps
 pub record BadIn (list : List (List ℕ)) (offset : ℕ) : Type 0 where
   pub before : List Dump
   pub body : List ℕ
@@ -62,7 +64,7 @@ BytesFixDumps = (bytes : List ℕ) (a b : List Dump) → KeepsDumps bytes a → 
 
 -- ---- opening
 
--- what opening makes of the bytes
+-- which dumps opening finds in the bytes, or which error it gives, and which bytes it leaves
 abbrev pub Opens : {S : Type 0} → (S → List ℕ) → List ℕ → Result (ShelfState S) (ShelfError × S) → Type 0
 Opens held old (Ok shelf) = KeepsDumps old shelf.dumps × (held shelf.store ≡ (if nat_le (length old) 5 then begun shelf_magic else old))
 Opens held old (Err (errors.Failed, store)) = WritesOnlyNew old (held store)
@@ -78,28 +80,30 @@ CountsOpenFault faults before (Err (errors.BadRecord offset, store)) = faults st
 
 -- ---- adding
 
--- the item is added at the end; refused, which no bad record is the reason of, the list is left
+-- the item is added at the end; an error, which is no bad record, leaves the list as it was
 abbrev pub Adds : {A : Type 0} → List A → A → List A → Result Unit ShelfError → Type 0
 Adds old item new (Ok _) = new ≡ old ++ item ∷ []
 Adds old item new (Err errors.Failed) = new ≡ old
 Adds old item new (Err errors.NoMemory) = new ≡ old
 Adds old item new (Err (errors.BadRecord _)) = ⊥
 
--- In what a stop leaves, the dumps are those from before, or one more: the one that is added, or the one that was refused before.
+-- What a crash leaves has the dumps from before, or one more: the one that is added, or the one that was refused
+-- before.
 abbrev pub IsBeforeOrAfter : {S : Type 0} → ShelfState S → Dump → List ℕ → Type 0
 IsBeforeOrAfter old d image = KeepsDumps image old.dumps ⊎ (KeepsDumps image (old.dumps ++ d ∷ []) ⊎ (refused : Dump) × (old.torn ≡ true) × (dump_bytes refused ≡ old.refused) × KeepsDumps image (old.dumps ++ refused ∷ []))
 
--- afterwards the gate is shut, or torn with the body that was refused, now or before
+-- after the call the gate is shut, or torn with the body that was refused, now or before
 abbrev pub Refuses : {S E T : Type 0} → ShelfState S → Dump → ShelfState S → Result T E → Type 0
 Refuses old d new (Ok _) = new.torn ≡ false
 Refuses old d new (Err _) = new.torn ≡ true → (new.refused ≡ dump_bytes d) ⊎ (old.torn ≡ true) × (new.refused ≡ old.refused)
 
--- each image that a stop may leave now has these dumps and nothing more
+-- each image that a crash may leave now has these dumps and nothing more
 abbrev pub LeavesDumps : (List ℕ → Type 0) → List Dump → Type 0
 LeavesDumps may dumps = (image : List ℕ) → may image → KeepsDumps image dumps
 
 -- ---- looking up
 
+-- the names of the dumps
 abbrev pub names_of : List Dump → List (List ℕ)
 names_of dumps = map (λ (d : Dump). d.name) dumps
 

@@ -12,7 +12,7 @@ pub enum ShelfError {
     /// The store failed, and has counted it.
     #[error("the store failed")]
     Failed,
-    /// The bytes are no shelf, by what stands at this offset.
+    /// The bytes are no shelf, because of the record at this offset.
     #[error("bad record: {0}")]
     BadRecord(u64),
     #[error("out of memory")]

@@ -13,7 +13,7 @@ pub struct Label {
     pub at: u64,
 }
 
-/// The place of the first label with the name, or none where no label has it.
+/// Returns the index of the first label with the name, or `None` if no label has it.
 pub fn place_of(labels: &[Label], name: &Name) -> Option<usize>
     ensures { IsFirstPlace name.now (labelled labels.now) result }
 {

@@ -16,7 +16,7 @@ use cj_outside::MemStore;
 use std::alloc::Global;
 use std::marker::Model;
 
-/// What is at hand of a dump.
+/// Returns what is kept at hand of a dump.
 fn taken_of(d: &Dump) -> TakenDump
     ensures { result ≡ taken_of d.now }
 {
@@ -27,16 +27,16 @@ fn taken_of(d: &Dump) -> TakenDump
     }
 }
 
-/// The first that was taken under the name.
+/// Returns the first dump that was taken under the name.
 fn first_taken<'a>(taken: &'a [TakenDump], name: &Name) -> Option<&'a TakenDump>
     ensures { option_copied result ≡ find (λ d. bytes_eq d.name name.now) taken.now }
 {
     taken.iter().find(|d| d.name.is(name))
 }
 
-/// What a refusal by a shelf in memory comes to. Its store fails only where it would pass the most bytes
-/// of a store, and then there is no memory for more either; and it tells its bytes, so that no record of
-/// them is bad.
+/// Returns what a refusal by a shelf in memory means. Its store fails only where it would pass the
+/// most bytes of a store, and then there is no memory for more either. It tells its bytes, so no
+/// record of them is bad.
 fn refusal(error: ShelfError) -> NoMemory
     requires { IsNoBadRecord error }
 {
@@ -46,8 +46,8 @@ fn refusal(error: ShelfError) -> NoMemory
     }
 }
 
-/// Dumps in memory: their bytes on a shelf over a store in memory, and what is asked of them often at
-/// hand.
+/// Dumps in memory: their bytes in a shelf over a store in memory, and beside them the name, source
+/// and position of each.
 #[derive(Drop)]
 pub struct MemoryShelf {
     shelf: Shelf<MemStore>,
@@ -67,7 +67,7 @@ impl Model for MemoryShelf {
 }
 
 impl MemoryShelf {
-    /// An empty one.
+    /// Makes a shelf without dumps. `NoMemory` is the only error.
     pub fn new(alloc: Global) -> Result<MemoryShelf, NoMemory>
         ensures { IfOk result (λ m. m ≡ []) }
     {
@@ -81,14 +81,16 @@ impl MemoryShelf {
         }
     }
 
-    /// What is at hand of the first dump of a name, without its bytes.
+    /// Returns the name, source and position of the first dump of this name, or `None` if no dump
+    /// has it. The bytes are not read.
     pub fn find(&self, name: &Name) -> Option<&TakenDump>
         ensures { option_copied result ≡ find (λ d. bytes_eq d.name name.now) (map taken_of self.now) }
     {
         first_taken(&self.taken, name)
     }
 
-    /// Adds a dump at the end. Want of memory, of the store in memory too, leaves the list.
+    /// Adds a dump at the end. `NoMemory` is the only error, also where the store in memory is
+    /// full, and leaves the list as it was.
     pub fn add(&mut self, d: &Dump) -> Result<(), NoMemory>
         requires { CanEncode d.now }
         ensures ok { OnOk result (self.new ≡ self.old ++ d.now ∷ []) }
@@ -105,7 +107,8 @@ impl MemoryShelf {
         }
     }
 
-    /// The first dump of a name, read from its bytes; none exactly where no dump has the name.
+    /// Reads the first dump of this name from its bytes. `None` comes exactly if no dump has the
+    /// name, and `NoMemory` is the only error. The list stays.
     pub fn read(&mut self, name: &Name) -> Result<Option<Dump>, NoMemory>
         ensures first { IfOk result (λ found. found ≡ first_of name.now self.old) }
         ensures storable { IfOk result (λ found. IfSome found IsDump) }

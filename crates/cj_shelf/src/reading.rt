@@ -14,7 +14,8 @@ use cj_outside::Store;
 use cj_records::Records;
 use std::alloc::Global;
 
-/// The refusal of a record whose gate is at an offset and whose body was not decoded.
+/// Returns the refusal of a record whose body was not decoded. `at` is the offset of the record's
+/// gate.
 fn refusal_at(at: u64, error: DumpError) -> ShelfError
     ensures { result ≡ proving.refusal_at at error }
 {
@@ -26,7 +27,8 @@ fn refusal_at(at: u64, error: DumpError) -> ShelfError
     }
 }
 
-/// The dump of the body of a record whose gate is at an offset.
+/// Decodes the body of a record as a dump. A body that is no dump's is `BadRecord(at)`, where `at`
+/// is the offset of the record's gate.
 #[tactic(auto, using(crate::proofs::Bodies::dump_refused))]
 pub fn dump_of(alloc: Global, body: &[u8], at: u64) -> Result<Dump, ShelfError>
     ensures { FindsDump body.now at result }
@@ -37,7 +39,8 @@ pub fn dump_of(alloc: Global, body: &[u8], at: u64) -> Result<Dump, ShelfError>
     }
 }
 
-/// The labels of the dumps of all records, in order. Only their names stay in memory.
+/// Reads all records in order and returns a label for each. Only the names of the dumps stay in
+/// memory. The first body that is no dump's is `BadRecord`, with the offset of its gate.
 pub fn read_labels<D: Store>(
     alloc: Global,
     records: &mut Records<D>,

@@ -19,11 +19,11 @@ use cj_records::Records;
 use std::alloc::Global;
 use std::marker::Model;
 
-/// The magic of a shelf.
+/// The first bytes of a shelf.
 const MAGIC: [u8; 4] = *b"CJD1";
 
-/// Dumps in the order in which they were added. In memory are their names alone, and a dump is read
-/// where it is asked for.
+/// Dumps in the order in which they were added. Only their names are in memory, and a dump is read
+/// from the store when it is asked for.
 #[derive(Drop)]
 pub struct Shelf<D: Store> {
     alloc: Global,
@@ -43,11 +43,11 @@ impl<D: Store> Model for Shelf<D> {
 }
 
 impl<D: Store> Shelf<D> {
-    /// Opens the shelf of a store, which is begun where it is new.
+    /// Opens the shelf of a store. A store that has no record file yet gets an empty one.
     ///
-    /// All gates are looked at first, and then the bodies in order. `BadRecord` comes exactly where
-    /// the bytes are no shelf. Refused, it hands the store back, in which nothing was written but the
-    /// bytes of a new file.
+    /// All gates are checked first, and then the bodies in order. `BadRecord` comes exactly if the
+    /// bytes are no shelf, and leaves them as they were. `Failed` and `NoMemory` write nothing but
+    /// the first bytes of a new file. Each error hands the store back.
     pub fn open(alloc: Global, store: D) -> Result<Shelf<D>, (ShelfError, D)>
         requires { D.tells ≡ true → Only (D.held store) (D.may store) }
         ensures bytes { D.tells ≡ true → shelves.Opens D.held (D.held store) result }
@@ -68,8 +68,8 @@ impl<D: Store> Shelf<D> {
         }
     }
 
-    /// Adds a dump at the end. Refused, it leaves the list; `NoMemory` comes only before the gate of
-    /// the dump's record is opened.
+    /// Adds a dump at the end. An error leaves the list as it was. `NoMemory` comes only before the
+    /// gate of the dump's record is opened; `Failed` is a fault that the store counted.
     pub fn add(&mut self, d: &Dump) -> Result<(), ShelfError>
         requires { CanEncode d.now }
         ensures names { Adds self.old.names d.now.name self.new.names result }
@@ -94,8 +94,8 @@ impl<D: Store> Shelf<D> {
         Ok(())
     }
 
-    /// Shows what holds of all shelves: the bytes, and what a stop leaves of them, keep these dumps; where
-    /// a dump was refused while its gate was opened, maybe that one too.
+    /// Shows what holds of every shelf: its bytes keep these dumps, and so does whatever a crash
+    /// leaves of them. If a dump was refused while its gate was open, that one may be there too.
     pub fn legal(&self)
         ensures each { D.tells ≡ true → AllByRecursion IsDump self.now.dumps }
         ensures names { D.tells ≡ true → self.now.names ≡ names_of self.now.dumps }
@@ -110,17 +110,19 @@ impl<D: Store> Shelf<D> {
         self.records.legal();
     }
 
-    /// Whether a dump has the name, which is told without the store.
+    /// Whether a dump has the name. The store is not asked.
     pub fn has(&self, name: &Name) -> bool
         ensures { result ≡ is_among name.now self.now.names }
     {
         is_among(&self.labels, name)
     }
 
-    /// The first dump of a name, read from the store; none exactly where no dump has the name.
+    /// Reads the first dump of this name from the store. `None` comes exactly if no dump has the
+    /// name.
     ///
-    /// `BadRecord` comes only over a store that tells nothing, where the record at this offset is no
-    /// longer that of a dump of the name.
+    /// `Failed` is a fault that the store counted. `BadRecord` comes only over a store that tells
+    /// nothing, if the record at this offset is no longer that of a dump of the name. The shelf and
+    /// its bytes stay in any case.
     #[tactic(auto, using(crate::proofs::Looked::place_within, crate::proofs::Looked::place_tells))]
     pub fn find(&mut self, name: &Name) -> Result<Option<Dump>, ShelfError>
         ensures first { D.tells ≡ true → GivesFirst name.now self.old.dumps result }
@@ -142,7 +144,7 @@ impl<D: Store> Shelf<D> {
         Ok(Some(d))
     }
 
-    /// The store, as it is.
+    /// Takes the shelf apart and returns the store, as it is.
     pub fn into_store(self) -> D
         ensures { result ≡ self.store }
     {

@@ -6,7 +6,7 @@ use Rattle.cj_outside.specs.Causes.{next}
 use Rattle.cj_backend.specs.Backends.{arming_after}
 use Rattle.cj_replica.specs.Cells.{CellState}
 
--- cell b with its backend armed once more, if it can be; the other cells as they were
+-- the cells, of which cell b has its backend armed once more, if it can be
 abbrev pub armed_at : Bool → List CellState → ℕ → CellState → List CellState
 armed_at can cells b d = slice_set cells b (record (slice_index_or cells b d) { arming = arming_after can (slice_index_or cells b d).arming })
 
@@ -14,7 +14,7 @@ armed_at can cells b d = slice_set cells b (record (slice_index_or cells b d) { 
 abbrev pub armings_of : List CellState → List ℕ
 armings_of cells = map (λ (x : CellState). x.arming.times) cells
 
--- one arming more of the backend that was armed, where one was
+-- how often each backend was armed, with one time more for the backend given, if any
 abbrev pub armings_after : List ℕ → Option ℕ → List ℕ
 armings_after armings None = armings
 armings_after armings (Some b) = slice_set armings b (next (slice_index_or armings b 0))

@@ -11,12 +11,12 @@ use Rattle.cj_replica.specs.Cells.{CellState}
 abbrev pub asks_of : List CellState → List ℕ
 asks_of cells = map (λ (x : CellState). x.asks) cells
 
--- one query more of the backend that answered, where one did
+-- how many queries each backend has answered, with one more for the backend given, if any
 abbrev pub asks_with : List ℕ → Option ℕ → List ℕ
 asks_with asks None = asks
 asks_with asks (Some b) = slice_set asks b (next (slice_index_or asks b 0))
 
--- the backend that answered where it was asked
+-- backend b, if it answered
 abbrev pub answered_by : {T E : Type 0} → ℕ → Result T E → Option ℕ
 answered_by b (Ok answered) = Some b
 answered_by b (Err error) = None
@@ -25,6 +25,6 @@ answered_by b (Err error) = None
 abbrev pub PicksFirst : Balance → ℕ → ℕ → Type 0
 PicksFirst balance candidates b = IsFirst (is_ahead balance.policy balance.weights balance.standing) candidates b
 
--- backend b was picked, and a read began there and is over
+-- the balance after a pick of backend b whose read began and is over
 abbrev pub read_over : Balance → ℕ → Balance
 read_over balance b = record balance { standing = record (read_at balance b).standing { pending = one_less (read_at balance b).standing.pending b } }

@@ -10,7 +10,8 @@ use Rattle.cj_cluster.specs.Moves.Cores.{Core}
 use Rattle.cj_replica.specs.Cells.{CellState}
 use Rattle.cj_book.specs.Starts.{greatest_session}
 
--- The backends of a placement have taken no entry of a history that a log opened with, none is enabled, and no session is open. Session numbers go on above the greatest in the log.
+-- The core at the opening of a log: no backend has taken an entry or is enabled, and no session is open. Session
+-- numbers go on above the greatest in the log.
 abbrev pub opened_core : Placement → List Event → Core
 opened_core p h =
     record {
@@ -37,6 +38,6 @@ pub record AreFresh (p : Placement) (cells : List CellState) : Type 0 where
   pub as_many : length cells ≡ p.backends
   pub each : (b : ℕ) (d : CellState) → b < length cells → IsFresh p b (slice_index_or cells b d)
 
--- backends that tell what they hold tell that they are empty
+-- if contents are visible, each backend is empty
 abbrev pub AreEmpty : Bool → List (Option (List Slot)) → Type 0
 AreEmpty tells told = tells ≡ true → All (λ (t : Option (List Slot)). t ≡ Some []) told

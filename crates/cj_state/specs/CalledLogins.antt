@@ -21,7 +21,7 @@ use Rattle.cj_state.specs.Worlds.{WorldState, accounts_of}
 abbrev pub logins_of : List CellState → List (Option (List ℕ))
 logins_of cells = map (λ (x : CellState). x.login) cells
 
--- the user of the entry behind a position
+-- the user of the entry after a position
 abbrev pub next_user : List Entry → Option ℕ → List ℕ
 next_user entries None = []
 next_user entries (Some p) = option_map_or (λ (e : Entry). e.user) (slice_get entries p) []
@@ -30,23 +30,23 @@ next_user entries (Some p) = option_map_or (λ (e : Entry). e.user) (slice_get e
 abbrev pub CallsUnder : ℕ → List ℕ → List (Option (List ℕ)) → List (Option (List ℕ)) → Type 0
 CallsUnder b login old new = new ≡ slice_set old b (Some login)
 
--- it was, or it was refused before it looked at the login
+-- backend b was called under this login, or was refused before it looked at the login
 abbrev pub MayCallUnder : ℕ → List ℕ → List (Option (List ℕ)) → List (Option (List ℕ)) → Type 0
 MayCallUnder b login old new = (new ≡ old) ⊎ CallsUnder b login old new
 
--- whom a session asks for: a user, or its own
+-- the user for whom a session asks: the one given, or else the session's own
 abbrev pub asked_for : List OpenSession → ℕ → Option (List ℕ) → List ℕ
 asked_for sessions s (Some user) = user
 asked_for sessions s None = option_map_or (λ (x : OpenSession). x.user) (find_session sessions s) []
 
--- backend b did this with an entry, for a user who has this login there
+-- the logins after backend b did this with an entry, whose user has this login there
 abbrev pub LogsInToTake : ℕ → List ℕ → Did → List (Option (List ℕ)) → List (Option (List ℕ)) → Type 0
 LogsInToTake b login (did.Done o) old new = CallsUnder b login old new
 LogsInToTake b login did.Skipped old new = new ≡ old
 LogsInToTake b login did.Failed old new = MayCallUnder b login old new
 LogsInToTake b login did.Starved old new = MayCallUnder b login old new
 
--- backend b was asked for a user who has this login there
+-- the logins after backend b was asked for a user who has this login there
 abbrev pub AskedUnderLogin : ℕ → List ℕ → Result (Asked × ℕ) AskError → List (Option (List ℕ)) → List (Option (List ℕ)) → Type 0
 AskedUnderLogin b login (Ok answered) old new = CallsUnder b login old new
 AskedUnderLogin b login (Err ask_errors.Out) old new = new ≡ old
@@ -55,6 +55,6 @@ AskedUnderLogin b login (Err ask_errors.Failed) old new = MayCallUnder b login o
 AskedUnderLogin b login (Err (ask_errors.Unnoted n)) old new = MayCallUnder b login old new
 AskedUnderLogin b login (Err ask_errors.NoMemory) old new = new ≡ old
 
--- the login that the user of backend b's next entry has there
+-- the login at backend b of the user of the entry that it takes next
 abbrev pub login_to_take : WorldState → ℕ → List ℕ
 login_to_take w b = login_of (accounts_of w) (next_user (log w.core.history) (position_at w.core b)) b

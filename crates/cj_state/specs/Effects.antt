@@ -1,4 +1,4 @@
--- What the parts of moves make of a world.
+-- What the parts of moves change of a world, and what they answer.
 use Rattle.std.specs.Prelude.{◌≡◌, ◌⊎◌, ℕ, ◌+◌, ◌<◌, ◌≤◌, Bool, true, false, List, length, Result, Ok, Err}
 use Rattle.std.specs.declared.option.Option.{Option}
 use Rattle.std.specs.declared.option.Option.TheVariants.{None, Some}
@@ -40,7 +40,7 @@ SchedulesAs c e (Err (HistoryFull n)) = (n ≡ length c.history) × HasServer c.
 SchedulesAs c e (Err LogFault) = HasServer c.placement c.history (request_of e.act) × (3 ≤ events_left c.history)
 SchedulesAs c e (Err NoMemory) = Unit {0}
 
--- whether one event more could come, or why not
+-- whether the history had room for one event more, or why not
 abbrev pub HadRoom : {T : Type 0} → Core → Result T BookError → Type 0
 HadRoom c (Ok x) = 0 < events_left c.history
 HadRoom c (Err (InProgress n)) = ⊥
@@ -49,7 +49,8 @@ HadRoom c (Err (HistoryFull n)) = (events_left c.history ≡ 0) × (n ≡ length
 HadRoom c (Err LogFault) = ⊥
 HadRoom c (Err NoMemory) = ⊥
 
--- the same of what stands in the log first
+-- whether the history had room for an event that the log keeps first, or why not; the log's store may fail or memory
+-- run out
 abbrev pub HadLoggedRoom : {T : Type 0} → Core → Result T BookError → Type 0
 HadLoggedRoom c (Ok x) = 0 < events_left c.history
 HadLoggedRoom c (Err (InProgress n)) = ⊥
@@ -58,7 +59,8 @@ HadLoggedRoom c (Err (HistoryFull n)) = (events_left c.history ≡ 0) × (n ≡ 
 HadLoggedRoom c (Err LogFault) = 0 < events_left c.history
 HadLoggedRoom c (Err NoMemory) = Unit {0}
 
--- the core after an entry of session s was scheduled or refused: a fault of the log's store is an event of the session's request, which is yet to be counted
+-- the core after an entry of session s was scheduled or refused; a fault of the log's store is an event of the
+-- session's request, which is yet to be counted
 abbrev pub core_scheduled : Core → ℕ → Entry → Result ℕ BookError → Core
 core_scheduled c s e (Ok n) = scheduled_as c s e
 core_scheduled c s e (Err (InProgress n)) = c
@@ -85,7 +87,7 @@ core_marked c name (Err (HistoryFull n)) = c
 core_marked c name (Err LogFault) = happened c (event.LogFailed 0 0)
 core_marked c name (Err NoMemory) = c
 
--- what the open entry is answered
+-- the reply to the open entry is right
 abbrev pub AnswersOpen : Bool → Core → Reply → Type 0
 AnswersOpen tells c reply = (e : Entry) → open_entry_of c.history ≡ Some e → AnswersEntry tells c.placement c.history (with_end c) (ended_count c.history) e reply
 
@@ -99,7 +101,7 @@ Asks tells c s b tx select (Err errors.Failed) = IsFarEnough c s b × (0 < event
 Asks tells c s b tx select (Err (errors.Unnoted n)) = IsFarEnough c s b × (events_left c.history ≡ 0) × (n ≡ length c.history)
 Asks tells c s b tx select (Err errors.NoMemory) = Unit {0}
 
--- the core after that: a failure is an event of the history, where that has room
+-- the core after backend b was asked for a session: its failure is an event of the history, if that has room
 abbrev pub asked_core : Core → ℕ → ℕ → Result (Asked × ℕ) AskError → Core
 asked_core c s b (Ok answered) = c
 asked_core c s b (Err errors.Out) = c
@@ -108,7 +110,7 @@ asked_core c s b (Err errors.Failed) = happened c (event.ReadFailed s (read_numb
 asked_core c s b (Err (errors.Unnoted n)) = c
 asked_core c s b (Err errors.NoMemory) = c
 
--- the backend that failed where it was asked
+-- backend b, if it failed when it was asked
 abbrev pub failed_asked : ℕ → Result (Asked × ℕ) AskError → Option ℕ
 failed_asked b (Ok answered) = None
 failed_asked b (Err errors.Out) = None
@@ -117,7 +119,7 @@ failed_asked b (Err errors.Failed) = Some b
 failed_asked b (Err (errors.Unnoted n)) = Some b
 failed_asked b (Err errors.NoMemory) = None
 
--- what a cell's error comes to, and the book: of a failure it has an event, where there is room
+-- the error given for a cell's error, and the book after it: a failure is an event, if there is room
 abbrev pub Notes : {S : Type 0} → BookState S → ℕ → ℕ → ℕ → CellReadError → AskError → BookState S → Type 0
 Notes old s q b cell_errors.Out error new = (error ≡ errors.Out) × (new ≡ old)
 Notes old s q b (cell_errors.Behind p) error new = (error ≡ errors.Behind p) × (new ≡ old)
@@ -125,14 +127,14 @@ Notes old s q b cell_errors.Failed error new =
     ((error ≡ errors.Failed) × (0 < events_left old.history) × (new ≡ with_event old (event.ReadFailed s q b))) ⊎ ((n : ℕ) × (error ≡ errors.Unnoted n) × HasNoRoomForOne old n × (new ≡ old))
 Notes old s q b cell_errors.NoMemory error new = (error ≡ errors.NoMemory) × (new ≡ old)
 
--- the mask has each backend that another has
+-- each backend of `other` is in `mask`
 abbrev pub Covers : ℕ → ℕ → Type 0
 Covers mask other = (b : ℕ) → in_mask other b ≡ true → in_mask mask b ≡ true
 
--- Since some reply of the session, or since it has begun, each backend of the mask has failed in its read.
+-- since some reply of the session, or since it began, each backend of the mask has failed in its read
 abbrev pub HaveFailed : Core → ℕ → ℕ → Type 0
 HaveFailed c s mask = (a : SessionView) × IsBetweenReplies a c s × ((b : ℕ) → in_mask mask b ≡ true → HasFailedSince a.front c.history s (read_number (session_at c s)) b)
 
--- the entry of that, where it is an act
+-- the entry of the next request of session s, for this user and in transaction tx
 abbrev pub own_entry : Core → ℕ → ℕ → List ℕ → Act → Entry
 own_entry c s tx user act = record { session = s; seq = (session_at c s).requests + 1; tx = tx; user = user; act = act }

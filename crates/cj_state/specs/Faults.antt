@@ -11,7 +11,7 @@ use Rattle.cj_replica.specs.Cells.{CellState}
 abbrev pub faults_of : List CellState → List ℕ
 faults_of cells = map (λ (x : CellState). x.faults) cells
 
--- one fault more of the backend that failed, where one did
+-- how many faults each backend has counted, with one more for the backend given, if any
 abbrev pub faults_after : List ℕ → Option ℕ → List ℕ
 faults_after faults None = faults
 faults_after faults (Some b) = slice_set faults b (next (slice_index_or faults b 0))

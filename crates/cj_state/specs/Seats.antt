@@ -12,7 +12,7 @@ states_of cells = map (λ (x : SeatedCell). x.state) cells
 abbrev pub AreCellsAt : TableId → List SeatedCell → Type 0
 AreCellsAt id cells = All (λ (x : SeatedCell). x.board ≡ id) cells
 
--- the cell of backend b alone has changed, and so
+-- the cell of backend b has changed in this way, and no other cell has changed
 pub record ChangesCell (old : List CellState) (b : ℕ) (How : CellState → CellState → Type 0) (new : List CellState) : Type 0 where
   pub before : CellState
   pub after : CellState

@@ -1,4 +1,4 @@
--- What a world is taken apart into.
+-- The parts into which a world is taken apart.
 use Rattle.std.specs.Prelude.{◌≡◌, ℕ, ◌+◌, Bool, List, [], map}
 use Rattle.atomic_table.specs.Seated.{TableId}
 use Rattle.cj_auth.specs.Admission.{Register}
@@ -29,7 +29,9 @@ pub record IsBookOf {S : Type 0} (w : WorldState) (b : BookState S) : Type 0 whe
   pub cache : b.cache ≡ w.cache
   pub balance : b.balance ≡ w.balance
 
--- The parts of a world: all seats are at one board, the book's seat has seen the history, and the cells and dumps are those of the world. No session has an own pass, and each further one can be given one where the numbers follow the history.
+-- The parts of a world: all seats are at one board, the book's seat has seen the history, and cells and dumps are
+-- those of the world. No session has an own pass, but each further one can be given one where the numbers follow the
+-- history.
 pub record IsTakenApart {S : Type 0} (tells : Bool) (w : WorldState) (id pass : TableId) (b : SeatedBook S) (xs : List SeatedCell) (register : Register) (taken : List Dump) : Type 0 where
   pub at : AreAt id pass b.board xs
   pub book : IsBookOf w b.state

@@ -1,4 +1,4 @@
--- What contracts see of a world, and what holds of every one.
+-- What contracts see of a world, and what holds of every world.
 use Rattle.std.specs.Prelude.{◌≡◌, ℕ, ◌<◌, ◌≤◌, Bool, true, List, [], length, map, All, slice_index_or}
 use Rattle.cj_model.specs.declared.account.Account.{Account}
 use Rattle.cj_model.specs.declared.request.Entry.{Entry}
@@ -32,7 +32,8 @@ pub record LogView : Type 0 where
   pub faults : ℕ
   pub bytes : List ℕ
 
--- the state that moves change, the cells of the backends by their numbers, what no move changes, what is seen of the recovery log, the answers kept of queries, and what the balancer knows of its picks
+-- what contracts see of a world: the state that moves change, the cells by the numbers of their backends, what no
+-- move changes, the recovery log, the result cache, and what the balancer knows of its picks
 pub record WorldState : Type 0 where
   pub core : Core
   pub cells : List CellState
@@ -100,27 +101,29 @@ unseen_log = record { faults = 0; bytes = [] }
 abbrev pub unseen_balance : Balance
 unseen_balance = record { policy = RoundRobin; weights = []; standing = at_rest }
 
--- the world of these, but for its log, its cache and its balance
+-- the world of these parts, with no log, cache or balance seen
 abbrev pub world_of : Register → Layout → List Event → List CellState → ℕ → ℕ → List OpenSession → ℕ → List Dump → WorldState
 world_of register l h cells failed starved sessions greatest dumps =
     record { core = core_of l h cells failed starved sessions greatest dumps; cells = cells; setup = record { names = l.names; accounts = register }; recovery_log = unseen_log; cache = empty_cache 0; balance = unseen_balance }
 
--- the cell of backend b that holds its part of the database after the entries that it has taken
+-- backend b's cell, which holds its part of the database after the entries that it has taken
 pub record IsCell (tells : Bool) (p : Placement) (entries : List Entry) (b : ℕ) (x : CellState) : Type 0 where
   pub number : x.b ≡ b
   pub placement : x.placement ≡ p
   pub holds : HoldsPart tells p b entries x.told x.position
   pub drafts : HasBegunDrafts tells p b entries x.begun x.position
 
--- a dump of what its backend held of the database after the entries that it had taken
+-- a dump of what its backend held after the entries that it had taken
 pub record IsDumpOf (tells : Bool) (p : Placement) (entries : List Entry) (d : Dump) : Type 0 where
   pub within : d.position ≤ length entries
   pub holds : tells ≡ true → d.db ≡ part p d.source (database_after entries d.position)
 
+-- each is a dump of what its backend held after the entries that it had taken
 abbrev pub AreDumpsOf : Bool → Placement → List Entry → List Dump → Type 0
 AreDumpsOf tells p entries dumps = All (IsDumpOf tells p entries) dumps
 
--- What holds of every world: its core is sound, cell b is the cell of backend b and stands where the core says, and each session stands between two replies.
+-- What holds of every world: its core is sound, cell b is that of backend b and at the position that the core says,
+-- and each session is between two replies.
 pub record IsWorld (tells : Bool) (w : WorldState) : Type 0 where
   pub sound : CoreInvariant w.core
   pub named : length w.setup.names ≡ w.core.placement.backends

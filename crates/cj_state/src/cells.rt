@@ -1,4 +1,4 @@
-//! Cells by the numbers of their backends.
+//! The calls of one cell, found by the number of its backend.
 
 ghost use Rattle.std.specs.Prelude.{◌≡◌, ◌↔◌, ◌<◌, ◌≤◌, ◌==◌, ◌&&◌, ℕ, IsErrOf, IsTrue, length, not, slice_get, slice_index_or, None, Some, true};
 ghost use mathlib.Core.List.{IsPrefix};
@@ -37,13 +37,13 @@ use thiserror::Error;
 pub enum AskError {
     #[error("the backend is out")]
     Out,
-    /// The backend stands at this position, below what the session has seen.
+    /// The backend is at this position, below the least that the session needs.
     #[error("the backend is behind")]
     Behind(u64),
-    /// It failed, and the history says so.
+    /// The backend failed, and the history has an event of it.
     #[error("the backend failed")]
     Failed,
-    /// It failed, and the history of so many events has no room to say so.
+    /// The backend failed, and the history, of so many events, has no room for an event of it.
     #[error("the backend failed, and the history of {0} events is full")]
     Unnoted(u64),
     #[error("out of memory")]
@@ -61,14 +61,14 @@ fn did_of(caught: Result<Caught, CellError>) -> Did
     }
 }
 
-/// Whether the mask has each backend that another has.
+/// Whether `mask` has every backend that `other` has.
 pub fn covers(mask: u32, other: u32) -> bool
     ensures { IsTrue result ↔ Covers mask other }
 {
     other & !mask == 0
 }
 
-/// The mask without one of its backends.
+/// Returns the mask without backend `b`, which it has.
 pub fn without_bit(mask: u32, b: u8) -> u32
     requires within { b < 32 }
     requires has { in_mask mask b ≡ true }
@@ -78,14 +78,16 @@ pub fn without_bit(mask: u32, b: u8) -> u32
     mask & !(1 << b)
 }
 
-/// A position, or 0 for none.
+/// Returns the position, or 0 if there is none.
 pub fn place(position: Option<u64>) -> u64
     ensures { result ≡ moves.position_or_zero position }
 {
     position.unwrap_or(0)
 }
 
-/// Backend `b` takes the entry at its position, under the login of the entry's user.
+/// Has backend `b` carry out or skip the entry after its position, under the login that the entry's
+/// user has there. The log has such an entry. The book then knows the new position. A backend that
+/// failed or ran out of memory is out.
 pub fn take<B: Backend, S: Store>(
     board: &Board,
     pass: &mut Pass,
@@ -132,7 +134,9 @@ fn catch_up_at<B: Backend, S: Store>(
     did_of(cells[b as usize].catch_up(board, next, entry, login))
 }
 
-/// Backend `b` answers a query of transaction `tx` at a position not below `least`.
+/// Asks backend `b` a query in transaction `tx`, 0 for none, under this login. Gives the answer and
+/// the position, which is at least `least`. Errors are those of `Cell::read`; the book learns of a
+/// failure.
 pub fn read_at<B: Backend, S: Store>(
     board: &Board,
     pass: &mut Pass,
@@ -158,7 +162,7 @@ pub fn read_at<B: Backend, S: Store>(
     answer
 }
 
-/// What backend `b` holds, drafts included, as it says where it is asked.
+/// Asks backend `b` for all that it holds, drafts included.
 pub fn contents_at<B: Backend>(
     board: &Board,
     cells: &mut Vec<Cell<B>>,
@@ -172,7 +176,7 @@ pub fn contents_at<B: Backend>(
     cells[b as usize].contents(board)
 }
 
-/// Arms backend `b`, if it can be.
+/// Makes the next call of backend `b` fail, if it can be armed.
 pub fn arm_at<B: Backend>(cells: &mut Vec<Cell<B>>, b: u8)
     requires within { b < length cells.old.items }
     ensures boards { (id : TableId) → AreCellsAt id cells.old.items → AreCellsAt id cells.new.items }
@@ -181,7 +185,8 @@ pub fn arm_at<B: Backend>(cells: &mut Vec<Cell<B>>, b: u8)
     cells[b as usize].arm();
 }
 
-/// Backend `b`, which is out, holds this database from now on, which is what it holds at a position of the log.
+/// Replaces the contents of backend `b`, which is out, by its part of the database after `position`
+/// entries. Then it is at that position. After an error it is still out.
 pub fn load_at<B: Backend, S: Store>(
     board: &Board,
     pass: &mut Pass,
@@ -205,7 +210,8 @@ pub fn load_at<B: Backend, S: Store>(
     cells[b as usize].load(board, db, position)
 }
 
-/// Why a backend that was asked gave no answer. Of a failure the history has an event from now on, where it has room.
+/// Says why a backend gave no answer. A failure becomes an event of the history, if that has room;
+/// noting it takes no memory.
 pub fn noted<S: Store>(
     board: &Board,
     book: &mut Book<S>,

@@ -1,4 +1,4 @@
-//! What the book and the cells hear of each other, by way of a pass.
+//! What the book and the cells learn of each other, by way of a pass.
 
 ghost use Rattle.std.specs.Prelude.{◌≡◌, ◌<◌, ◌≤◌, length, slice_index_or};
 ghost use mathlib.Core.List.{IsPrefix};
@@ -14,7 +14,7 @@ use cj_book::Book;
 use cj_outside::Store;
 use cj_replica::Cell;
 
-/// The cell of backend `b` has seen the whole history.
+/// Lets the cell of backend `b` see the whole history of the book. Positions and contents stay.
 pub fn tell<B: Backend, S: Store>(
     board: &Board,
     pass: &mut Pass,
@@ -33,7 +33,7 @@ pub fn tell<B: Backend, S: Store>(
     cells[b as usize].brief(board, pass);
 }
 
-/// The book has heard of the cell of backend `b`.
+/// Lets the book learn the position of backend `b` and its faults. Positions and contents stay.
 pub fn hear<B: Backend, S: Store>(
     board: &Board,
     pass: &mut Pass,
@@ -52,7 +52,7 @@ pub fn hear<B: Backend, S: Store>(
     book.learn(board, pass);
 }
 
-/// The book has heard of each cell.
+/// Lets the book learn the position and the faults of each backend. Positions and contents stay.
 pub fn hear_all<B: Backend, S: Store>(
     board: &Board,
     pass: &mut Pass,

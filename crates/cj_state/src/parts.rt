@@ -1,4 +1,4 @@
-//! What a world is made of, and what it is taken apart into.
+//! The parts of which a world is made, and those into which it is taken apart.
 
 use cj_auth::Accounts;
 use cj_backend::Backend;
@@ -9,7 +9,7 @@ use cj_outside::Store;
 use cj_replica::Cell;
 use cj_shelf::MemoryShelf;
 
-/// What a world is made of beside its backends. Each account has a login at each of them.
+/// What a world is made of, without its backends. Each account has a login at each backend.
 #[derive(Drop)]
 pub struct Parts {
     pub book: BookParts,
@@ -19,18 +19,19 @@ pub struct Parts {
 /// Backends in the order of their numbers.
 pub type Backends<B> = ListOf<B>;
 
-/// A world taken apart: its board, and the book and the cells at the board's seats, of which each may go behind a
-/// lock of its own.
+/// A world taken apart: its board, and the book and the cells with seats there. The book and each
+/// cell may get a lock of their own.
 #[derive(Drop)]
 pub struct Shared<B: Backend, S: Store> {
     pub board: Board,
-    /// What goes from one seat to another.
+    /// The pass that carries knowledge from one seat to another.
     pub pass: Pass,
     pub book: Book<S>,
-    /// By the numbers of their backends.
+    /// The cells, by the numbers of their backends.
     pub cells: Vec<Cell<B>>,
     pub accounts: Accounts,
     pub dumps: MemoryShelf,
-    /// An empty list with room for the most backends, in which they can be given up without memory.
+    /// An empty list with room for the most backends, so that giving the backends up takes no
+    /// memory.
     pub emptied: Vec<B>,
 }

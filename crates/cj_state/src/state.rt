@@ -69,16 +69,17 @@ use cj_tally::Tally;
 use std::alloc::Global;
 use std::marker::Model;
 
-/// The history, the cells of the backends, the open sessions, the accounts and the dumps.
+/// The state of a world: the history, the cells of the backends, the open sessions, the accounts
+/// and the dumps. Each call keeps what holds of every world (`legal`).
 #[derive(Drop)]
 pub struct State<B: Backend, S: Store> {
     alloc: Global,
     /// The board at which the book and the cells have their seats.
     board: Board,
-    /// What goes from one of them to another.
+    /// The pass that carries knowledge between these seats.
     pass: Pass,
     book: Book<S>,
-    /// By the numbers of their backends.
+    /// The cells, by the numbers of their backends.
     cells: Vec<Cell<B>>,
     /// What the backends did with the open entry; without reports where none is open.
     tally: Tally,
@@ -108,7 +109,7 @@ impl<B: Backend, S: Store> Model for State<B, S> {
         (AreAt (board_id w.board) (pass_board w.pass) w.book.board w.cells.items × IsReady w.book.view w.tally.failed) };
 }
 
-/// Whether a read of the session is open that is not of this query.
+/// Whether the session has a read open that is of another query.
 fn is_other(session: &OpenSession, select: &Select) -> bool
     ensures { MatchBool result (HasOtherRead session.now select.now) (HasNoOtherRead session.now select.now) }
 {
@@ -127,7 +128,7 @@ fn tried_of(reading: &Option<OpenRead>) -> u32
     }
 }
 
-/// Whom a session asks for: this user, or its own.
+/// Returns the user for whom a session asks: the one given, or else the session's own.
 fn asking_user<'a>(sessions: &'a Sessions, s: u64, user: Option<&'a Text>) -> &'a Text
     requires { is_some (find_session sessions.now s) ≡ true }
     ensures { result.now ≡ asked_for sessions.now s (option_copied user.entry) }
@@ -144,8 +145,8 @@ fn asking_user<'a>(sessions: &'a Sessions, s: u64, user: Option<&'a Text>) -> &'
 // ---- how it is made
 
 impl<B: Backend + Drop, S: Store + Drop> State<B, S> {
-    /// The state over a book that was just opened and these cells, of which none has taken an entry: no backend is enabled and no
-    /// session is open.
+    /// Makes the state of a world over a book that was just opened. No cell has taken an entry, no
+    /// backend is enabled, no session is open, and there are no dumps.
     pub fn new(
         alloc: Global,
         board: Board,
@@ -193,7 +194,8 @@ impl<B: Backend + Drop, S: Store + Drop> State<B, S> {
 // ---- how it is given up
 
 impl<B: Backend + Drop, S: Store + Drop> State<B, S> {
-    /// Its cells.
+    /// Takes the state apart and returns its cells, at most `BACKEND_LIMIT`, by the numbers of
+    /// their backends.
     pub fn into_cells(self) -> Vec<Cell<B>>
         ensures cells { states_of result.items ≡ self.cells }
         ensures few { length self.cells ≤ BACKEND_LIMIT }
@@ -203,7 +205,8 @@ impl<B: Backend + Drop, S: Store + Drop> State<B, S> {
         cells
     }
 
-    /// The log's store, as it is. Its bytes keep the history, and so does whatever a stop at this moment leaves of them.
+    /// Takes the state apart and returns the log's store, as it is. Its bytes keep the history, and
+    /// so does whatever a crash at this moment leaves of them.
     pub fn into_log(self) -> S
         ensures faults { S.faults result ≡ self.recovery_log.faults }
         ensures bytes { S.held result ≡ self.recovery_log.bytes }
@@ -215,7 +218,8 @@ impl<B: Backend + Drop, S: Store + Drop> State<B, S> {
         book.into_log()
     }
 
-    /// Its board, and the book and the cells at the board's seats, beside this empty list for the backends.
+    /// Takes the state apart: its board, the book and the cells with seats there, its accounts and
+    /// its dumps. `emptied` is an empty list that goes along, for the backends.
     pub fn into_shared(self, emptied: Vec<B>) -> Shared<B, S>
         ensures world { IsWorld B.tells self }
         ensures fresh { IsFresh B.tells self }
@@ -248,7 +252,8 @@ impl<B: Backend + Drop, S: Store + Drop> State<B, S> {
 // ---- what moves read
 
 impl<B: Backend, S: Store> State<B, S> {
-    /// Shows what holds of every world.
+    /// Shows what holds of every world. The log's bytes keep its history, and its cache has fresh
+    /// answers alone.
     pub fn legal(&self)
         ensures world { IsWorld B.tells self.now }
         ensures logged { S.tells ≡ true → KeepsHistory self.now }
@@ -257,14 +262,14 @@ impl<B: Backend, S: Store> State<B, S> {
         self.book.legal();
     }
 
-    /// How many entries there are, which is the number of the last one.
+    /// Returns how many entries there are, which is the number of the last one.
     pub fn length(&self) -> u64
         ensures { result ≡ moves.last_number self.now.core }
     {
         self.book.length()
     }
 
-    /// The number of the open entry.
+    /// Returns the number of the open entry, or `None` if no entry is open.
     pub fn open_entry(&self) -> Option<u64>
         ensures none { IsNone result ↔ (is_free self.now.core.history ≡ true) }
         ensures number { IfSome result (λ n. n ≡ moves.last_number self.now.core) }
@@ -272,14 +277,14 @@ impl<B: Backend, S: Store> State<B, S> {
         self.book.open_entry()
     }
 
-    /// The mask of the enabled backends.
+    /// Returns the mask of the enabled backends.
     pub fn enabled(&self) -> u32
         ensures { (b : ℕ) → in_mask result b ≡ histories.is_enabled self.now.core.history b }
     {
         self.book.enabled()
     }
 
-    /// How many entries the backend has taken; none where it is out.
+    /// Returns how many entries backend `b` has taken, or `None` if it is out.
     pub fn position(&self, b: u8) -> Option<u64>
         ensures { result ≡ position_at self.now.core b }
     {
@@ -289,7 +294,7 @@ impl<B: Backend, S: Store> State<B, S> {
         }
     }
 
-    /// Which backends host which tables, and what they are called.
+    /// Returns the placement: which backends host which tables, and what the backends are called.
     pub fn placement(&self) -> &Placement
         ensures placement { placement_of result.now ≡ self.now.core.placement }
         ensures names { result.now.names ≡ self.now.setup.names }
@@ -297,7 +302,8 @@ impl<B: Backend, S: Store> State<B, S> {
         self.book.placement()
     }
 
-    /// Whether an account has this user and this password. Such a user is a text of at most 64 bytes.
+    /// Whether an account has this user and this password. A user that is admitted is a text of at
+    /// most 64 bytes.
     pub fn admits(&self, user: &[u8], password: &[u8]) -> bool
         ensures admitted { result ≡ admits (accounts_of self.now) user.now password.now }
         ensures user { OnTrue result (IsUserName user.now) }
@@ -305,30 +311,33 @@ impl<B: Backend, S: Store> State<B, S> {
         self.accounts.check(user, password)
     }
 
-    /// Where it takes its memory from.
+    /// Returns the allocator from which the state takes its memory.
     pub fn allocator(&self) -> Global {
         self.alloc
     }
 
+    /// Whether no entry is open.
     pub fn is_free(&self) -> bool
         ensures { result ≡ is_free self.now.core.history }
     {
         self.book.is_free()
     }
 
+    /// Whether backend `b` is enabled.
     pub fn is_enabled(&self, b: u8) -> bool
         ensures { result ≡ histories.is_enabled self.now.core.history b }
     {
         self.book.is_enabled(b)
     }
 
+    /// Whether session `s` is open.
     pub fn is_open(&self, s: u64) -> bool
         ensures { result ≡ moves.is_open self.now.core s }
     {
         self.sessions.get(s).is_some()
     }
 
-    /// Whether the session's own entry is open.
+    /// Whether the open entry is one of session `s`.
     pub fn is_waiting(&self, s: u64) -> bool
         ensures { result ≡ moves.is_waiting self.now.core s }
     {
@@ -338,6 +347,7 @@ impl<B: Backend, S: Store> State<B, S> {
         }
     }
 
+    /// Whether session `s` has a read open.
     pub fn is_reading(&self, s: u64) -> bool
         ensures { result ≡ moves.is_reading (session_at self.now.core s) }
     {
@@ -347,7 +357,7 @@ impl<B: Backend, S: Store> State<B, S> {
         }
     }
 
-    /// How many requests the session has made.
+    /// Returns how many requests session `s` has made.
     fn requests(&self, s: u64) -> u64
         ensures { result ≡ (session_at self.now.core s).requests }
     {
@@ -357,7 +367,7 @@ impl<B: Backend, S: Store> State<B, S> {
         }
     }
 
-    /// The position that the session's reads need at least.
+    /// Returns the position that reads of session `s` need at least.
     fn least(&self, s: u64) -> u64
         ensures { result ≡ (session_at self.now.core s).least }
     {
@@ -367,7 +377,7 @@ impl<B: Backend, S: Store> State<B, S> {
         }
     }
 
-    /// The number of the entry that the backend takes next; 1 where it is out.
+    /// Returns the number of the entry that backend `b` takes next, or 1 if it is out.
     pub fn next_of(&self, b: u8) -> u64
         ensures { result ≡ moves.position_or_zero (position_at self.now.core b) + 1 }
     {
@@ -375,7 +385,7 @@ impl<B: Backend, S: Store> State<B, S> {
         place(self.position(b)) + 1
     }
 
-    /// The session's open transaction, or 0.
+    /// Returns the open transaction of session `s`, which is open, or 0 if there is none.
     pub fn open_tx(&self, s: u64) -> u64
         requires { moves.is_open self.now.core s ≡ true }
         ensures { result ≡ moves.open_tx self.now.core s }
@@ -383,14 +393,15 @@ impl<B: Backend, S: Store> State<B, S> {
         self.book.open_tx(s)
     }
 
-    /// Whether the transaction is open, and its session isn't.
+    /// Whether the transaction is open and its session isn't.
     pub fn is_orphan(&self, tx: u64) -> bool
         ensures { result ≡ moves.is_orphan self.now.core tx }
     {
         self.book.is_orphan(tx)
     }
 
-    /// The session's next entry.
+    /// Makes the entry of the next request of session `s`, for its own user and in its open
+    /// transaction. `NoMemory` is the only error. The state stays.
     pub fn next_entry(&self, s: u64, act: Act) -> Result<Entry, NoMemory>
         requires here { moves.is_open self.now.core s ≡ true }
         requires counts { (session_at self.now.core s).requests < REQUEST_LIMIT }
@@ -411,7 +422,8 @@ impl<B: Backend, S: Store> State<B, S> {
         }
     }
 
-    /// The entry of the session's next request, for this user and in this transaction, 0 for none.
+    /// Makes the entry of the next request of session `s`, for this user and in transaction `tx`, 0
+    /// for none. `NoMemory` is the only error. The state stays.
     pub fn entry_for(&self, s: u64, user: &Text, tx: u64, act: Act) -> Result<Entry, NoMemory>
         requires here { moves.is_open self.now.core s ≡ true }
         requires counts { (session_at self.now.core s).requests < REQUEST_LIMIT }
@@ -430,7 +442,8 @@ impl<B: Backend, S: Store> State<B, S> {
         })
     }
 
-    /// The administrator's end of an orphan, for the user who began it.
+    /// Makes the administrator's entry that ends an orphan, for the user who began it. `NoMemory`
+    /// is the only error. The state stays.
     pub fn abort_entry(&self, tx: u64) -> Result<Entry, NoMemory>
         requires { moves.is_orphan self.now.core tx ≡ true }
         ensures is { IfOk result (λ e. e ≡ moves.abort_entry self.now.core tx) }
@@ -448,7 +461,7 @@ impl<B: Backend, S: Store> State<B, S> {
         }
     }
 
-    /// Whether another read of the session is open.
+    /// Whether session `s` has a read open that is of another query.
     pub fn reads_other(&self, s: u64, select: &Select) -> bool
         ensures { MatchBool result (HasOtherRead (session_at self.now.core s) select.now) (HasNoOtherRead (session_at self.now.core s) select.now) }
     {
@@ -458,7 +471,8 @@ impl<B: Backend, S: Store> State<B, S> {
         }
     }
 
-    /// The number of the session's read.
+    /// Returns the number that a read of session `s` has among its requests: that of the open read,
+    /// or else the next.
     pub fn read_number(&self, s: u64) -> u64
         requires { (session_at self.now.core s).requests < REQUEST_LIMIT }
         ensures { result ≡ moves.read_number (session_at self.now.core s) }
@@ -469,7 +483,8 @@ impl<B: Backend, S: Store> State<B, S> {
         }
     }
 
-    /// The mask of the backends that failed in the session's read.
+    /// Returns the mask of the backends that failed in the open read of session `s`; 0 if it has
+    /// none.
     pub fn tried(&self, s: u64) -> u32
         ensures { result ≡ moves.tried_of (session_at self.now.core s).reading }
     {
@@ -479,7 +494,8 @@ impl<B: Backend, S: Store> State<B, S> {
         }
     }
 
-    /// That mask with one more backend.
+    /// Returns the mask of the backends that failed in the open read of session `s`, together with
+    /// backend `b`.
     pub fn tried_with(&self, s: u64, b: u8) -> u32
         requires { b < self.now.core.placement.backends }
         ensures { result ≡ moves.tried_with self.now.core s b }
@@ -488,7 +504,8 @@ impl<B: Backend, S: Store> State<B, S> {
         with_bit(self.tried(s), b)
     }
 
-    /// The mask of the backends that serve the query.
+    /// Returns the mask of the backends that serve the query: those enabled that host each of its
+    /// tables.
     pub fn serving(&self, select: &Select) -> u32
         ensures mask { IsServingMask self.now.core select.now result }
         ensures below { result < 2 ^ BACKEND_LIMIT }
@@ -496,7 +513,8 @@ impl<B: Backend, S: Store> State<B, S> {
         self.book.candidates(select.tables.as_slice())
     }
 
-    /// The position of the first enabled backend that is neither at the log's end nor out.
+    /// Returns the position of the first enabled backend that is neither at the log's end nor out,
+    /// or `None`.
     pub fn behind(&self) -> Option<u64>
         ensures { result ≡ moves.first_lagging self.now.core.history 0 self.now.core.positions }
     {
@@ -511,20 +529,22 @@ impl<B: Backend, S: Store> State<B, S> {
         None
     }
 
-    /// Whether no session more can be opened.
+    /// Whether no further session can be opened: `SESSION_LIMIT` are open, or the greatest number
+    /// is at its limit.
     pub fn has_no_number(&self) -> bool
         ensures { result ≡ moves.has_no_number self.now.core }
     {
         self.sessions.len() >= SESSION_LIMIT || self.book.greatest() >= SESSION_NUMBER_LIMIT
     }
 
-    /// How many sessions are open.
+    /// Returns how many sessions are open.
     pub fn session_count(&self) -> u64
         ensures { result ≡ length self.now.core.sessions }
     {
         self.sessions.len() as u64
     }
 
+    /// Returns the refusal of a further session, which has the number of open ones.
     pub fn sessions_full(&self) -> Refusal
         ensures { result ≡ moves.sessions_full self.now.core }
     {
@@ -535,6 +555,8 @@ impl<B: Backend, S: Store> State<B, S> {
         }
     }
 
+    /// Returns the refusal of an event for which the history has no room; it has the number of
+    /// events.
     pub fn history_full(&self) -> Refusal
         ensures { result ≡ moves.history_full self.now.core }
     {
@@ -545,7 +567,7 @@ impl<B: Backend, S: Store> State<B, S> {
         }
     }
 
-    /// What the open entry is answered, where no backend is behind.
+    /// Returns the reply to the open entry. No backend may be behind (`behind`).
     pub fn reply(&self) -> Reply
         requires open { is_free self.now.core.history ≡ false }
         requires behind { moves.first_lagging self.now.core.history 0 self.now.core.positions ≡ None }
@@ -558,7 +580,9 @@ impl<B: Backend, S: Store> State<B, S> {
 // ---- what moves change
 
 impl<B: Backend, S: Store> State<B, S> {
-    /// Opens a session of the next number, without an own pass. It takes no memory.
+    /// Opens a session for this user and returns its number, the greatest so far plus 1. A further
+    /// session can be opened (`has_no_number`). The session gets no own pass, and opening it takes
+    /// no memory.
     pub fn add_session(&mut self, user: Text) -> u64
         requires number { moves.has_no_number self.old.core ≡ false }
         requires user { length user ≤ USER_LIMIT }
@@ -573,7 +597,7 @@ impl<B: Backend, S: Store> State<B, S> {
         }
     }
 
-    /// Closes a session whose own entry is not open.
+    /// Closes session `s`, of which no entry is open.
     pub fn remove_session(&mut self, s: u64)
         requires { moves.is_waiting self.old.core s ≡ false }
         ensures { self.new ≡ with_core self.old (closed_for self.old.core s) }
@@ -582,7 +606,7 @@ impl<B: Backend, S: Store> State<B, S> {
         self.book.close_session(s);
     }
 
-    /// The session has made one request more.
+    /// Counts one request more of session `s`, of which no entry and no read is open.
     pub fn count(&mut self, s: u64)
         requires counts { (session_at self.old.core s).requests < REQUEST_LIMIT }
         requires idle { moves.is_waiting self.old.core s ≡ false }
@@ -592,10 +616,12 @@ impl<B: Backend, S: Store> State<B, S> {
         self.sessions.count(s);
     }
 
-    /// Picks the backend of a read among the candidates; none exactly where there are none.
+    /// Picks the backend of a read among the candidates, by the policy. `None` comes exactly if
+    /// there are none.
     ///
-    /// Here a read is over before another is picked, so it is pending at none of the picks. Where reads go on side by
-    /// side, each ends only once its backend has answered.
+    /// The read is counted as over at once, so it is pending at no later pick. That is right where
+    /// reads follow each other. Where they go on side by side, each ends only once its backend has
+    /// answered.
     pub fn pick(&mut self, candidates: u32) -> Option<u8>
         requires { candidates < 2 ^ BACKEND_LIMIT }
         ensures none { IsNone result ↔ (candidates ≡ 0) }
@@ -608,7 +634,8 @@ impl<B: Backend, S: Store> State<B, S> {
         Some(b)
     }
 
-    /// The session's read was refused.
+    /// Closes the read of session `s` as refused. The read counts as one request, however often it
+    /// was tried.
     pub fn refuse_read(&mut self, s: u64)
         requires counts { (session_at self.old.core s).requests < REQUEST_LIMIT }
         requires idle { moves.is_waiting self.old.core s ≡ false }
@@ -617,7 +644,8 @@ impl<B: Backend, S: Store> State<B, S> {
         self.sessions.refuse_read(s);
     }
 
-    /// The session's read was answered at a position.
+    /// Closes the read of session `s` as answered at `position`. Later reads of the session need
+    /// that position at least.
     pub fn answer_read(&mut self, s: u64, position: u64)
         requires counts { (session_at self.old.core s).requests < REQUEST_LIMIT }
         requires within { position ≤ moves.last_number self.old.core }
@@ -627,7 +655,8 @@ impl<B: Backend, S: Store> State<B, S> {
         self.sessions.answer_read(s, position);
     }
 
-    /// The session's read stays open, and the backends of the mask have failed in it.
+    /// Keeps the read of session `s` open, with this query. `tried` is the mask of the backends
+    /// that have failed in it.
     pub fn keep_reading(&mut self, s: u64, select: Select, tried: u32)
         requires counts { (session_at self.old.core s).requests < REQUEST_LIMIT }
         requires idle { moves.is_waiting self.old.core s ≡ false }
@@ -637,7 +666,10 @@ impl<B: Backend, S: Store> State<B, S> {
         self.sessions.keep_reading(s, select, tried);
     }
 
-    /// Schedules an entry of the session. Where it is refused, the request is yet to be counted.
+    /// Schedules an entry of session `s`, counts its request and returns the entry's number. After
+    /// an error the request is yet to be counted, and the history has at most the event of a
+    /// `LogFault`, which the log's store has counted. Errors other than `LogFault` and `NoMemory`
+    /// leave the whole state as it was.
     pub fn schedule_entry(&mut self, s: u64, entry: Entry) -> Result<u64, BookError>
         requires here { moves.is_open self.old.core s ≡ true }
         requires counts { (session_at self.old.core s).requests < REQUEST_LIMIT }
@@ -662,7 +694,9 @@ impl<B: Backend, S: Store> State<B, S> {
         }
     }
 
-    /// Schedules the administrator's end of an orphan.
+    /// Schedules the administrator's end of an orphan and returns the entry's number. After an
+    /// error the history has at most the event of a `LogFault`, which the log's store has counted.
+    /// Errors other than `LogFault` and `NoMemory` leave the whole state as it was.
     pub fn schedule_abort(&mut self, entry: Entry) -> Result<u64, BookError>
         requires orphan { moves.is_orphan self.old.core entry.tx ≡ true }
         requires is { entry ≡ moves.abort_entry self.old.core entry.tx }
@@ -683,14 +717,14 @@ impl<B: Backend, S: Store> State<B, S> {
         }
     }
 
-    /// The mask of the backends that wanted memory in the open entry.
+    /// Returns the mask of the backends that ran out of memory in the open entry.
     pub fn starved(&self) -> u32
         ensures { result ≡ self.now.core.starved }
     {
         self.tally.starved
     }
 
-    /// The session of the open entry.
+    /// Returns the session of the open entry; there is one.
     pub fn waiting(&self) -> u64
         requires { is_free self.now.core.history ≡ false }
         ensures { (e : Entry) × (histories.open_entry_of self.now.core.history ≡ Some e) × (result ≡ e.session) }
@@ -701,7 +735,7 @@ impl<B: Backend, S: Store> State<B, S> {
         }
     }
 
-    /// Ends the open entry, which is of this session.
+    /// Ends the open entry, which is one of session `s`. No backend is behind (`behind`).
     pub fn end_entry(&mut self, s: u64)
         requires open { is_free self.old.core.history ≡ false }
         requires waits { moves.is_waiting self.old.core s ≡ true }
@@ -716,7 +750,8 @@ impl<B: Backend, S: Store> State<B, S> {
         self.tally = Tally::new();
     }
 
-    /// The backend takes the open entry.
+    /// Has backend `b` carry out or skip the open entry. What it did counts for the entry's reply.
+    /// A backend that failed or ran out of memory is out.
     pub fn catch_up_open(&mut self, b: u8) -> Did
         requires within { b < self.old.core.placement.backends }
         requires now { not_now self.old.core (Move.Apply b) ≡ None }
@@ -743,7 +778,8 @@ impl<B: Backend, S: Store> State<B, S> {
         did
     }
 
-    /// A backend that isn't enabled takes the log's next entry.
+    /// Has backend `b`, which isn't enabled, carry out or skip the entry after its position. A
+    /// backend that failed or ran out of memory is out.
     pub fn catch_up_next(&mut self, b: u8) -> Did
         requires within { b < self.old.core.placement.backends }
         requires now { not_now self.old.core (Move.Replay b) ≡ None }
@@ -766,9 +802,11 @@ impl<B: Backend, S: Store> State<B, S> {
         )
     }
 
-    /// Asks the backend for a session in transaction `tx`, 0 for none, and notes in the history where
-    /// it failed. It asks for this user, or for the session's own. The memory to note a failure is
-    /// taken first, so that want of memory hides none.
+    /// Asks backend `b` for session `s` in transaction `tx`, 0 for none, and gives the answer with
+    /// its position. It is asked for this user, or else for the session's own.
+    ///
+    /// A failure becomes an event of the history, if that has room; noting it takes no memory. Any
+    /// other error leaves the history, and `NoMemory` leaves the whole state as it was.
     pub fn ask(
         &mut self,
         s: u64,
@@ -816,8 +854,8 @@ impl<B: Backend, S: Store> State<B, S> {
         }
     }
 
-    /// What the backend holds, drafts included, as it says where it is asked. Nothing is changed by it but
-    /// its faults and its arming.
+    /// Asks backend `b` for all that it holds, drafts included. Nothing but its faults and its
+    /// arming may change.
     pub fn contents(&mut self, b: u8) -> Result<Db, CellError>
         requires { b < self.old.core.placement.backends }
         ensures held { IfOk result (IsHeld B.tells self.old.core b) }
@@ -835,7 +873,7 @@ impl<B: Backend, S: Store> State<B, S> {
         contents_at(&self.board, &mut self.cells, b)
     }
 
-    /// Arms the backend, if it can be.
+    /// Makes the next call of backend `b` fail, if it can be armed.
     pub fn arm_backend(&mut self, b: u8)
         requires { b < self.old.core.placement.backends }
         ensures core { self.new.core ≡ self.old.core }
@@ -851,6 +889,8 @@ impl<B: Backend, S: Store> State<B, S> {
         arm_at(&mut self.cells, b);
     }
 
+    /// Disables backend `b`, which is enabled, while no entry is open. An error comes only if the
+    /// history has no room for an event, and leaves the state as it was.
     pub fn disable(&mut self, b: u8) -> Result<(), BookError>
         requires free { is_free self.old.core.history ≡ true }
         requires on { histories.is_enabled self.old.core.history b ≡ true }
@@ -861,6 +901,9 @@ impl<B: Backend, S: Store> State<B, S> {
         self.book.disable(&self.board, b)
     }
 
+    /// Enables backend `b`, which isn't enabled and is at the end of the log, while no entry is
+    /// open. An error comes only if the history has no room for an event, and leaves the state as
+    /// it was.
     pub fn enable(&mut self, b: u8) -> Result<(), BookError>
         requires free { is_free self.old.core.history ≡ true }
         requires off { histories.is_enabled self.old.core.history b ≡ false }
@@ -886,7 +929,10 @@ impl<B: Backend, S: Store> State<B, S> {
         self.book.is_taken(name) || self.dumps.find(name).is_some()
     }
 
-    /// Marks a checkpoint of a name that no marker has, and answers how many entries stand before it.
+    /// Marks a checkpoint, while no entry is open, under a name that no marker has. Returns how
+    /// many entries come before it. After an error the history has at most the event of a
+    /// `LogFault`, which the log's store has counted. Errors other than `LogFault` and `NoMemory`
+    /// leave the whole state as it was.
     pub fn mark(&mut self, name: &Name) -> Result<u64, BookError>
         requires free { is_free self.old.core.history ≡ true }
         requires fresh { histories.has_marker self.old.core.history name.now ≡ false }
@@ -903,14 +949,15 @@ impl<B: Backend, S: Store> State<B, S> {
 
     // ---- dumps
 
-    /// The first dump of a name.
+    /// Returns the name, source and position of the first dump of this name, or `None` if there is
+    /// none.
     pub fn find_dump(&self, name: &Name) -> Option<&TakenDump>
         ensures { option_copied result ≡ find_dump self.now.core.dumps name.now }
     {
         self.dumps.find(name)
     }
 
-    /// Whether the backend hosts a table that a dump of a name doesn't cover.
+    /// Whether backend `b` hosts a table that the dump doesn't cover.
     pub fn hosts_beyond(&self, b: u8, dump: &TakenDump) -> bool
         requires within { b < self.now.core.placement.backends }
         requires taken { (name : List ℕ) × (find_dump self.now.core.dumps name ≡ Some dump.now) }
@@ -919,7 +966,8 @@ impl<B: Backend, S: Store> State<B, S> {
         self.book.placement().hosts_beyond(b, dump.source)
     }
 
-    /// Keeps a dump of what the backend holds, and answers how many entries it has taken.
+    /// Keeps `db`, which is what backend `b` holds, as a dump of this name. Returns how many
+    /// entries the backend has taken. `NoMemory` is the only error, and leaves the state as it was.
     pub fn keep_dump(&mut self, b: u8, name: &Name, db: Db) -> Result<u64, NoMemory>
         requires within { b < self.old.core.placement.backends }
         requires now { not_now self.old.core (Move.Dump b name.now) ≡ None }
@@ -946,7 +994,7 @@ impl<B: Backend, S: Store> State<B, S> {
         Ok(position)
     }
 
-    /// What the first dump of a name has of the backend's tables.
+    /// Reads the first dump of this name, with only those of its tables that backend `b` hosts.
     fn cut_dump(&mut self, b: u8, name: &Name) -> Result<Dump, NoMemory>
         requires within { b < self.old.core.placement.backends }
         requires now { not_now self.old.core (Move.Load b name.now) ≡ None }
@@ -961,8 +1009,9 @@ impl<B: Backend, S: Store> State<B, S> {
         }
     }
 
-    /// The backend, which is out, holds from now on what the first dump of a name has of its tables. It answers how many entries the
-    /// backend has then taken.
+    /// Loads the first dump of this name into backend `b`, which is out, with only the tables that
+    /// it hosts. Returns the dump's position, at which the backend then is. After an error the
+    /// backend is still out.
     pub fn load_dump(&mut self, b: u8, name: &Name) -> Result<u64, CellError>
         requires within { b < self.old.core.placement.backends }
         requires now { not_now self.old.core (Move.Load b name.now) ≡ None }
@@ -991,7 +1040,8 @@ impl<B: Backend, S: Store> State<B, S> {
 
     // ---- the result cache
 
-    /// Whether the answer of the query is kept, which is then in front. This counts a hit or a miss.
+    /// Whether the cache has the answer of the query, which then moves to the front. This counts a
+    /// hit or a miss.
     pub fn look(&mut self, select: &Select) -> bool
         ensures found { result ≡ has_answer select.now self.old.cache }
         ensures looked { self.new ≡ with_cache self.old (after_look select.now self.old.cache) }
@@ -999,14 +1049,16 @@ impl<B: Backend, S: Store> State<B, S> {
         self.book.look(select)
     }
 
-    /// The kept answer of the query.
+    /// Returns the answer of the query that the cache has, if any. This counts neither a hit nor a
+    /// miss.
     pub fn kept(&self, select: &Select) -> Option<&Answer>
         ensures { option_copied result ≡ answer_kept select.now self.now.cache }
     {
         self.book.kept(select)
     }
 
-    /// Keeps what the query is answered at the log's end.
+    /// Keeps the answer of a query at the log's end. `NoMemory` is the only error, and leaves the
+    /// state as it was.
     pub fn keep(&mut self, select: Select, answer: Answer) -> Result<(), NoMemory>
         requires possible { IsAnswer answer }
         requires right { B.tells ≡ true → IsAnswerAt (log self.old.core.history) (moves.last_number self.old.core) select (Rows answer) }
@@ -1014,19 +1066,19 @@ impl<B: Backend, S: Store> State<B, S> {
         ensures err { OnErr result (self.new ≡ self.old) }
     {
         let end = self.book.length();
-        // No entry stands behind the log's end, so that it is kept.
+        // No entry comes after the log's end, so the answer is kept.
         self.book.keep(select, answer, end)?;
         Ok(())
     }
 
-    /// Whether no answer is ever kept.
+    /// Whether the cache never keeps an answer.
     pub fn keeps_none(&self) -> bool
         ensures { result ≡ true → (e : Cached) → after_keep e self.now.cache ≡ self.now.cache }
     {
         self.book.keeps_none()
     }
 
-    /// Hits and misses of the cache.
+    /// Returns the hits and the misses of the cache.
     pub fn cache_counts(&self) -> (u64, u64)
         ensures { result ≡ (self.now.cache.hits, self.now.cache.misses) }
     {

@@ -14,7 +14,7 @@ use Rattle.cj_replica.specs.declared.replica.CellError.TheVariants as cell_error
 use Rattle.cj_world_audit.specs.declared.auditing.AuditError.{AuditError}
 use Rattle.cj_world_audit.specs.declared.auditing.AuditError.TheVariants as errors
 
--- the lines of backend b: where it is enabled, those of its part of the database after the whole log
+-- the lines of backend b: those of its part of the database after the whole log if it is enabled, and else none
 abbrev pub lines_at : List (List ℕ) → Core → ℕ → List ℕ
 lines_at names c b = if is_enabled c.history b then backend_lines (slice_index_or names b []) (part c.placement b (database_of (log c.history))) else []
 
@@ -22,13 +22,13 @@ lines_at names c b = if is_enabled c.history b then backend_lines (slice_index_o
 abbrev pub audit_text : List (List ℕ) → Core → List ℕ
 audit_text names c = flat_map (lines_at names c) (range_with_len 0 c.placement.backends)
 
--- the backend that failed where all were asked
+-- the backend that failed in an audit, if one did
 abbrev pub failed_audit : {T : Type 0} → Result T AuditError → Option ℕ
 failed_audit (Ok audited) = None
 failed_audit (Err (errors.Fault b)) = Some b
 failed_audit (Err errors.NoMemory) = None
 
--- what that comes to in an audit
+-- the error of an audit for a cell's error
 abbrev pub audit_error : ℕ → CellError → AuditError
 audit_error b cell_errors.Failed = errors.Fault b
 audit_error b cell_errors.Starved = errors.NoMemory

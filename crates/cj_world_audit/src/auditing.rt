@@ -21,7 +21,7 @@ use thiserror::Error;
 /// Why there is no audit.
 #[derive(Clone, Copy, Debug, PartialEq, Eq, Error)]
 pub enum AuditError {
-    /// This backend failed.
+    /// The backend of this number failed.
     #[error("backend {0} failed")]
     Fault(u8),
     #[error("out of memory")]
@@ -48,7 +48,8 @@ fn audit_error(b: u8, error: CellError) -> AuditError
     }
 }
 
-/// Adds the lines of one backend, which is asked for its contents where it is enabled.
+/// Appends the lines of one backend. The backend is asked for its contents if it is enabled, and
+/// else has no lines.
 fn audit_backend<B: Backend, S: Store>(
     state: &mut State<B, S>,
     text: &mut Vec<u8>,
@@ -80,8 +81,11 @@ fn audit_backend<B: Backend, S: Store>(
     }
 }
 
-/// What the enabled backends hold, in the order of their numbers: a line for each table with its number of
-/// rows, and one for each row. Asks each enabled backend for its contents, and stops at the first that fails.
+/// Asks each enabled backend for its contents and returns them as lines, in the order of numbers. A
+/// table has a line with its number of rows, and each row has one. No entry is open.
+///
+/// The first backend that fails ends the audit, which counts one fault. The history, the positions
+/// and the sessions stay in any case.
 pub fn audit<B: Backend, S: Store>(state: &mut State<B, S>) -> Result<Text, AuditError>
     requires { is_free state.old.core.history ≡ true }
     ensures text { IfOk result (λ text. B.tells ≡ true → text ≡ audit_text state.old.setup.names state.old.core) }

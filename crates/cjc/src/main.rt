@@ -1,4 +1,9 @@
-//! The program: hands files, the standard streams and the clock to the command that its words say.
+//! The program: hands files, the standard streams and the clock to `run` of `cj_top`, for the command that its words
+//! say.
+//!
+//! Promised: all that `run` promises, for what `cj_edge` tells of these objects. This file has no contract of its
+//! own; `checks/` tries the built program.
+//! To change: which store a command gets as its log is `log_store`. Everything else of a command is in `cj_top`.
 #![tactic(auto)]
 
 use cj_edge::{
@@ -9,8 +14,8 @@ use std::fs::File;
 use std::process::ExitCode;
 use std::rt::Files;
 
-/// The recovery log as the command uses it. `log` leaves it to the program that writes it; `gen`, and words that are no
-/// command, touch none.
+/// Opens the recovery log as the command uses it. `log` leaves the file to the program that writes
+/// it. `gen`, and words that are no command, touch no file.
 fn log_store<R: Files<File = File>>(rt: R, words: &[String], path: String) -> FileStore<R> {
     let verb = words.first().map_or("", |word| word.as_str());
     if verb == "gen" || paths(words).is_none() {
@@ -24,7 +29,7 @@ fn log_store<R: Files<File = File>>(rt: R, words: &[String], path: String) -> Fi
 
 fn main(rt: HostRuntime) -> ExitCode {
     // Before the first file, which would take the place of a stream that is closed. Which one that is isn't known, and
-    // none was used yet, so the status is that of want of memory.
+    // none was used yet, so the status is the one for out of memory.
     if fill_standard_streams(&rt).is_err() {
         return ExitCode::from(1);
     }

@@ -16,7 +16,7 @@ use Rattle.cj_top.specs.Runs.{ComesBy, ReadsNoInput, RunsCommand}
 use Rattle.cjc_cases.specs.declared.program.Objects.{Objects}
 use Rattle.cjc_cases.specs.declared.program.TheConstants.{MOMENT}
 
--- an object in memory that holds these bytes, of which no call was made, and whose calls with these numbers fail
+-- an object in memory that holds these bytes; no call of it was made, and its calls with these numbers fail
 abbrev pub handed : List ℕ → List ℕ → State
 handed bytes fails = record { bytes = bytes; fails = fails; calls = 0; faults = 0 }
 
@@ -33,7 +33,7 @@ objects_of c = record {
 abbrev pub AreIdle : Objects → Objects → Type 0
 AreIdle a z = (z.input ≡ a.input) × (z.output ≡ a.output)
 
--- nor were the errors
+-- the input, the output and the errors were not touched
 abbrev pub AreQuiet : Objects → Objects → Type 0
 AreQuiet a z = (z.input ≡ a.input) × (z.output ≡ a.output) × (z.errors ≡ a.errors)
 
@@ -41,7 +41,8 @@ AreQuiet a z = (z.input ≡ a.input) × (z.output ≡ a.output) × (z.errors ≡
 abbrev pub StopsAt : State → Objects → Objects → ℕ → Type 0
 StopsAt log a z = StopsAtLog (RefusesLog (λ s. s.faults) log true log.bytes) (TellsRefusal (Some a.errors.bytes) (Some z.errors.bytes) a.errors.faults z.errors.faults) (AreIdle a z)
 
--- All that `run` of `cj_top` promises of a run with these words, over this log and these objects at this moment, that ends with this status.
+-- All that `run` of `cj_top` promises of a run with these words, over this log and these objects at this moment, that
+-- ends with this status.
 pub record KeepsPromises (words : List (List ℕ)) (log : State) (moment : ℤ) (a z : Objects) (status : ℕ) : Type 0 where
   pub runs : (command : Command) → Says words command → RunsCommand true a.configuration.bytes (WritesRefusal (Some a.errors.bytes) (Some z.errors.bytes) a.errors.faults z.errors.faults) (AreIdle a z) (AreQuiet a z)
       (λ c. ComesBy command c (Found true log.bytes) (StopsAt log a z) (AreQuiet a z) (Some moment) (Some a.input.bytes) (Some z.input.bytes) (Some a.output.bytes) (Some z.output.bytes) (Some a.errors.bytes) (Some z.errors.bytes) a.errors.faults z.errors.faults status) status
@@ -55,7 +56,7 @@ pub record KeepsPromises (words : List (List ℕ)) (log : State) (moment : ℤ) 
   pub complete : (command : Command) → Says words command → CountsNoFault a.configuration.faults z.configuration.faults → CountsNoFault a.input.faults z.input.faults → CountsNoFault a.output.faults z.output.faults → status ≢ 1 → status ≢ 7 → status ≢ 8 → status ≢ 12 →
       ByStore true a.configuration.bytes (CompletesCommand command (Some a.input.bytes) (Some a.output.bytes) (Some z.output.bytes) status) status
 
--- A run of the case gave this: its status, and what it wrote, are those of the program over the objects of the case.
+-- the status of the outcome, and what it wrote, are those of a run of the program over the objects of the case
 pub record GivesAsRun (c : CaseState) (outcome : Outcome) : Type 0 where
   pub left : Objects
   pub keeps : KeepsPromises c.words (handed c.log c.fails.log) MOMENT (objects_of c) left outcome.status

@@ -1,4 +1,11 @@
-//! The program over memory: reads cases from standard input, runs each as they say it, and writes what that came to.
+//! The program that plays the cases: reads them from standard input, runs each over objects in memory, and writes
+//! what the runs gave.
+//!
+//! Promised: each run is handed what its case says, and keeps what `run` of `cj_top` promises (`KeepsPromises`,
+//! `specs/Runs`).
+//! To change: a case is a line of `stdin` and its output in `stdout`; docs/ARCHITECTURE.md says how ("Where a case
+//! goes"). A new promise of `run` is repeated in `specs/Runs`.
+//! Proofs begin in `proofs/Kept`.
 #![tactic(auto)]
 
 mod program;

@@ -18,7 +18,7 @@ const MOMENT: i64 = 1_700_000_000;
 #[derive(Drop)]
 pub struct Program;
 
-/// What the program is handed beside the words, the log and the clock.
+/// What the program is handed besides the words, the log and the clock.
 #[derive(Drop)]
 pub struct Objects {
     configuration: MemStore,
@@ -58,7 +58,7 @@ fn handed_objects(alloc: Global, case: &Case) -> Result<Objects, NoMemory>
     })
 }
 
-/// The status of the program with these words, over these objects.
+/// Runs the program with these words over these objects, and returns its status.
 fn run_over(
     alloc: Global,
     words: &[String],
@@ -86,7 +86,7 @@ fn copied(alloc: Global, sink: &MemSink) -> Result<Vec<u8>, NoMemory>
     Ok(sink.content().to_vec(alloc)?)
 }
 
-/// The bytes of the store that was left; none where there is none.
+/// Returns the bytes of the store that was left, or none if there is no such store.
 fn left(alloc: Global, slot: &Slot) -> Result<Vec<u8>, NoMemory> {
     match slot.try_borrow() {
         Ok(store) => match &*store {

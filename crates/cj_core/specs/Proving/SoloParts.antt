@@ -35,7 +35,7 @@ use Rattle.cj_moves.specs.Counting.{log_faults_after}
 use Rattle.cj_model.specs.Cluster.Caching.{CacheState, answer_kept}
 use Rattle.cj_core.specs.Solos.{AreBackendsOf, AreCalledFor, IsPartOf, faults_counted, is_masked, mask_with, with_answer}
 
--- the session's next request
+-- the call that the session's next request is
 abbrev pub call_of : Core → ℕ → ℕ → List ℕ → Request → Reply → Call
 call_of c s tx user request reply = record { number = (session_at c s).requests + 1; tx = tx; user = user; request = request; reply = reply }
 
@@ -48,13 +48,14 @@ SchedulesOrRefuses c e (Err r) =
     ⊎ (r ≡ refusal_of_code NO_MEMORY)
     ⊎ (HasServer c.placement c.history (request_of e.act) × (3 ≤ events_left c.history) × (r ≡ refusal_of_code LOG_FAULT))
 
--- The entry of session s was scheduled, and stands in the log.
+-- the entry of session s was scheduled, and is in the log
 pub record EntryScheduled (s : ℕ) (e : Entry) (old new : WorldState) : Type 0 where
   pub after : IsSameWorldButLog (with_cache (with_core old (scheduled_as old.core s e)) new.cache) new
   pub cache : CacheFollowsLog old new
   pub log_faults : new.recovery_log.faults ≡ old.recovery_log.faults
 
--- The entry was refused, and its request is not counted yet: where the log's store failed, the history has an event of it.
+-- The entry was refused, and its request is not counted yet. If the log's store failed, the history has an event of
+-- it.
 pub record EntryRefused (e : Entry) (refusal : Refusal) (old new : WorldState) : Type 0 where
   pub after : IsSameWorldButLog (with_core old (if refusal.code == LOG_FAULT then happened old.core (LogFailed e.session e.seq) else old.core)) new
   pub log_faults : new.recovery_log.faults ≡ log_faults_after old.recovery_log.faults (refusal.code == LOG_FAULT)
@@ -63,7 +64,7 @@ pub record EntryRefused (e : Entry) (refusal : Refusal) (old new : WorldState) :
 abbrev pub open_user : Core → List ℕ
 open_user c = option_map_or (λ (e : Entry). e.user) (open_entry_of c.history) []
 
--- Backends have taken the open entry, which is this user's, and of them these failed. Else nothing was changed.
+-- backends carried out the open entry, for this user, and some failed; nothing else has changed
 pub record EntryTaken (user : List ℕ) (old new : WorldState) : Type 0 where
   pub core : new.core ≡ record old.core { positions = new.core.positions; begun = new.core.begun; failed = new.core.failed; starved = new.core.starved }
   pub setup : new.setup ≡ old.setup
@@ -83,14 +84,15 @@ pub record IsBeforeEnd (c : Core) (b : ℕ) : Type 0 where
   pub stands : position_at c b ≡ Some p
   pub more : p ≢ last_number c
 
--- Backend b has taken the open entry for its user, where it takes part in that; one that isn't enabled is as it was.
+-- Backend b carried out the open entry for its user, if it takes part in the entry. A backend that isn't enabled
+-- stays as it was.
 pub record TakesOpen (old new : WorldState) (b : ℕ) : Type 0 where
   pub did : (e : Entry) → open_entry_of old.core.history ≡ Some e → IsBeforeEnd old.core b → IsPartOf old.core e b → is_masked new.core.failed new.core.starved b ≡ false
       → slice_get (logins_of new.cells) b ≡ Some (Some (login_of (accounts_of old) e.user b))
   pub skipped : (e : Entry) → open_entry_of old.core.history ≡ Some e → (IsPartOf old.core e b → ⊥) → slice_get (logins_of new.cells) b ≡ slice_get (logins_of old.cells) b
   pub disabled : is_enabled old.core.history b ≡ false → slice_get new.cells b ≡ slice_get old.cells b
 
--- Backend b has nothing to do with what happened: its cell, where it stands, and the masks.
+-- nothing has happened to backend b: its cell, its position and the masks are as before
 pub record IsLeft (old new : WorldState) (b : ℕ) : Type 0 where
   pub cell : slice_get new.cells b ≡ slice_get old.cells b
   pub position : position_at new.core b ≡ position_at old.core b
@@ -98,7 +100,7 @@ pub record IsLeft (old new : WorldState) (b : ℕ) : Type 0 where
   pub failed : in_mask new.core.failed b ≡ in_mask old.core.failed b
   pub starved : in_mask new.core.starved b ≡ in_mask old.core.starved b
 
--- the backend stands at the log's end, where it is enabled and not out
+-- the backend is at the log's end, if it is enabled and not out
 abbrev pub HasTakenEntry : Core → ℕ → Type 0
 HasTakenEntry c b = (p : ℕ) → is_enabled c.history b ≡ true → position_at c b ≡ Some p → p ≡ last_number c
 
@@ -113,7 +115,7 @@ pub record EntryEnded (tells : Bool) (s : ℕ) (user : List ℕ) (old : WorldSta
   pub was_sound : CoreInvariant mid.core
   pub is_sound : CoreInvariant new.core
 
--- Backend b alone was called for this user, and did or didn't answer a query.
+-- backend b was called for this user, and no other was; it answered a query or didn't
 pub record CallsOne (user : List ℕ) (b : ℕ) (answered : Bool) (old new : WorldState) : Type 0 where
   pub asks : asks_of new.cells ≡ asks_with (asks_of old.cells) (if answered then Some b else None)
   pub under : answered ≡ true → CallsUnder b (login_of (accounts_of old) user b) (logins_of old.cells) (logins_of new.cells)
@@ -142,7 +144,7 @@ pub record QueryUnnoted (s b : ℕ) (old : WorldState) (reply : Reply) (new : Wo
   pub after : new.core ≡ with_request_counted old.core s
   pub faults : faults_of new.cells ≡ faults_after (faults_of old.cells) (Some b)
 
--- memory is wanting
+-- memory ran out
 pub record QueryStarved (s : ℕ) (old : WorldState) (reply : Reply) (new : WorldState) : Type 0 where
   pub replied : reply ≡ Refused (refusal_of_code NO_MEMORY)
   pub after : new.core ≡ with_request_counted old.core s
@@ -155,7 +157,7 @@ pub record QueryFailed (s b : ℕ) (old new : WorldState) : Type 0 where
   pub is_sound : CoreInvariant new.core
   pub faults : faults_of new.cells ≡ faults_after (faults_of old.cells) (Some b)
 
--- what backend b was asked by session s came to: an answer or a refusal, or none where it failed
+-- what came of a query that session s asked backend b: an answer, a refusal, or none if the backend failed
 abbrev pub AttemptsQuery : Bool → ℕ → ℕ → List ℕ → ℕ → Select → WorldState → Option Reply → WorldState → Type 0
 AttemptsQuery tells s b user tx select old (Some reply) new =
     (QueryAnswered tells s tx select old reply new × CallsOne user b true old new) ⊎ (QueryUnnoted s b old reply new × CallsOne user b false old new) ⊎ (QueryStarved s old reply new × (CallsOne user b true old new ⊎ CallsNobody old new))
@@ -163,16 +165,16 @@ AttemptsQuery tells s b user tx select old None new = QueryFailed s b old new ×
 
 -- ---- the result cache
 
--- the cache behind a query that was answered so in transaction tx, at the log's end, of n entries
+-- the cache after this reply to a query in transaction tx at the log's end, of n entries
 abbrev pub cache_answered : ℕ → Select → ℕ → Reply → CacheState → CacheState
 cache_answered tx s n reply cache = if tx == 0 then with_answer s n reply cache else cache
 
--- the same of one backend that was asked
+-- the cache after one backend was asked a query in transaction tx at the log's end, of n entries
 abbrev pub cache_attempted : ℕ → Select → ℕ → Option Reply → CacheState → CacheState
 cache_attempted tx s n (Some reply) cache = cache_answered tx s n reply cache
 cache_attempted tx s n None cache = cache
 
--- The answer that is kept of a query was replied to session s, unless memory was wanting for it.
+-- the kept answer of a query was replied to session s, unless memory ran out for it
 pub record RepliesKept (s : ℕ) (select : Select) (old : WorldState) (reply : Reply) (new : WorldState) : Type 0 where
   pub answer : Answer
   pub kept : answer_kept select old.cache ≡ Some answer

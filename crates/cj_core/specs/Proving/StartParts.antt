@@ -18,7 +18,8 @@ use Rattle.cj_state.specs.Faults.{faults_of}
 use Rattle.cj_state.specs.Worlds.{WorldState}
 use Rattle.cj_core.specs.Starts.{AbortsEach, StandsAfterStart, with_abort}
 
--- a part of a start counts one fault of the log's store exactly where it answers that this failed, and knows no other error but want of memory
+-- a part of a start counts one fault of the log's store exactly if it answers that this failed; `NoMemory` is its
+-- only other error
 abbrev pub CountsFaultOfPart : {T : Type 0} → ℕ → Result T StartError → ℕ → Type 0
 CountsFaultOfPart before (Ok x) now = now ≡ before
 CountsFaultOfPart before (Err errors.StoreFault) now = now ≡ next before
@@ -32,31 +33,31 @@ IsLonger old now = IsPrefix old.core.history now.core.history
 
 -- ---- what is seen of one backend
 
--- it stands as before, and has counted no fault more
+-- the backend is at the position of before, and has counted no fault more
 pub record IsSameAt (old now : WorldState) (b : ℕ) : Type 0 where
   pub position : position_at now.core b ≡ position_at old.core b
   pub faults : slice_get (faults_of now.cells) b ≡ slice_get (faults_of old.cells) b
 
--- it has taken so many entries, and has counted these faults and no more
+-- the backend has taken so many entries, and has counted these faults and no more
 pub record HasTaken (faults : List ℕ) (w : WorldState) (b p : ℕ) : Type 0 where
   pub position : position_at w.core b ≡ Some p
   pub counted : slice_get (faults_of w.cells) b ≡ slice_get faults b
 
--- it is out, and has counted one fault more than these
+-- the backend is out, and has counted one fault more than these
 pub record HasFailedOut (faults : List ℕ) (w : WorldState) (b : ℕ) : Type 0 where
   pub position : position_at w.core b ≡ None
   pub counted : slice_get (faults_of w.cells) b ≡ option_map next (slice_get faults b)
 
 -- ---- backends replay the log
 
--- nothing is changed but where backends stand, and their cells
+-- nothing has changed but the cells and positions of backends
 pub record OnlyReplays (old now : WorldState) : Type 0 where
   pub core : now.core ≡ record old.core { positions = now.core.positions; begun = now.core.begun }
   pub setup : now.setup ≡ old.setup
   pub recovery_log : now.recovery_log ≡ old.recovery_log
   pub cache : now.cache ≡ old.cache
 
--- the backend took the entry at its position, or failed in it
+-- the backend carried out the entry after its position, or failed in it, and no other backend has changed
 pub record TookNext (old now : WorldState) (b : ℕ) : Type 0 where
   pub others : (k : ℕ) → k ≢ b → IsSameAt old now k
   pub p : ℕ
@@ -69,7 +70,7 @@ HasReplayed faults w b = HasTaken faults w b (last_number w.core) ⊎ HasFailedO
 
 -- ---- backends are enabled
 
--- the backend is enabled, where it is not out
+-- the core after the backend was enabled, unless it is out
 abbrev pub enabled_where : Option ℕ → ℕ → Core → Core
 enabled_where None b c = c
 enabled_where (Some p) b c = happened c (Enabled b)
@@ -87,14 +88,14 @@ pub record EnabledTo (old now : WorldState) (i : ℕ) : Type 0 where
 
 -- ---- the open entry, which ends a transaction
 
--- nothing is changed but where backends stand, their cells, and the masks of the open entry
+-- nothing has changed but the cells and positions of backends, and the masks of the open entry
 pub record OnlyTakes (old now : WorldState) : Type 0 where
   pub core : now.core ≡ record old.core { positions = now.core.positions; begun = now.core.begun; failed = now.core.failed; starved = now.core.starved }
   pub setup : now.setup ≡ old.setup
   pub recovery_log : now.recovery_log ≡ old.recovery_log
   pub cache : now.cache ≡ old.cache
 
--- the backend stands as before, also in the mask of those that failed
+-- the backend is as before, also in the mask of those that failed
 pub record IsUntouched (old now : WorldState) (b : ℕ) : Type 0 where
   pub same : IsSameAt old now b
   pub mask : in_mask now.core.failed b ≡ in_mask old.core.failed b
@@ -113,40 +114,41 @@ pub record WasOut (faults : List ℕ) (w : WorldState) (b : ℕ) : Type 0 where
   pub out : HasFailedOut faults w b
   pub unmasked : in_mask w.core.failed b ≡ false
 
--- the backend is enabled and has taken it
+-- the backend is enabled and has taken the open entry
 pub record HasDone (faults : List ℕ) (w : WorldState) (b : ℕ) : Type 0 where
   pub on : is_enabled w.core.history b ≡ true
   pub taken : HasTaken faults w b (last_number w.core)
   pub unmasked : in_mask w.core.failed b ≡ false
 
--- the backend is enabled and failed in it
+-- the backend is enabled and failed in the open entry
 pub record FailedInIt (faults : List ℕ) (w : WorldState) (b : ℕ) : Type 0 where
   pub on : is_enabled w.core.history b ≡ true
   pub out : HasFailedOut faults w b
   pub masked : in_mask w.core.failed b ≡ true
 
--- before the backend is asked for it, and after
+-- the backend has yet to take the open entry, or was out before it
 abbrev pub StandsBefore : List ℕ → WorldState → ℕ → Type 0
 StandsBefore faults w b = IsDue faults w b ⊎ WasOut faults w b
 
+-- the backend has taken the open entry, failed in it, or was out before it
 abbrev pub StandsBehind : List ℕ → WorldState → ℕ → Type 0
 StandsBehind faults w b = HasDone faults w b ⊎ FailedInIt faults w b ⊎ WasOut faults w b
 
--- each backend that stood before it, stands behind it
+-- a backend before the open entry is then past it
 abbrev pub TakesPast : WorldState → WorldState → ℕ → Type 0
 TakesPast old now b = (faults : List ℕ) → StandsBefore faults old b → StandsBehind faults now b
 
 -- ---- transactions are ended
 
--- each backend stands as after a start, beside these faults
+-- each backend is as after a start, with these faults counted before it
 abbrev pub AllStand : List ℕ → WorldState → Type 0
 AllStand faults w = (b : ℕ) → b < w.core.placement.backends → StandsAfterStart faults w b
 
--- and beside some
+-- each backend is as after a start, with some faults counted before it
 abbrev pub AreStanding : WorldState → Type 0
 AreStanding w = (faults : List ℕ) × AllStand faults w
 
--- what no part of this changes
+-- placement, sessions, accounts and cache are as before
 pub record IsSameCluster (old now : WorldState) : Type 0 where
   pub placement : now.core.placement ≡ old.core.placement
   pub sessions : now.core.sessions ≡ old.core.sessions
@@ -154,7 +156,7 @@ pub record IsSameCluster (old now : WorldState) : Type 0 where
   pub setup : now.setup ≡ old.setup
   pub cache : now.cache ≡ old.cache
 
--- the transaction was ended, by an entry that is over
+-- the administrator ended the transaction, by an entry that has ended
 pub record TransactionEnded (tx : ℕ) (old now : WorldState) : Type 0 where
   pub failed : ℕ
   pub history : now.core.history ≡ with_abort old.core.history tx failed
@@ -162,12 +164,12 @@ pub record TransactionEnded (tx : ℕ) (old now : WorldState) : Type 0 where
   pub same : IsSameCluster old now
   pub stands : (faults : List ℕ) → AllStand faults old → AllStand faults now
 
--- it was, where it was open
+-- the administrator ended the transaction, if it was open
 abbrev pub EndedWhere : Bool → ℕ → WorldState → WorldState → Type 0
 EndedWhere true tx old now = TransactionEnded tx old now
 EndedWhere false tx old now = now ≡ old
 
--- Of the transactions whose number is at most i, those that were open were ended, one after another.
+-- the transactions with a number of at most i that were open were ended, one after another
 pub record EndedTo (old now : WorldState) (i : ℕ) : Type 0 where
   pub history : AbortsEach old.core.history (filter (is_orphan old.core) (range_with_len 1 i)) now.core.history
   pub later : (tx : ℕ) → i < tx → tx ≤ last_number old.core → is_orphan now.core tx ≡ is_orphan old.core tx

@@ -10,13 +10,13 @@ use Rattle.cj_cluster.specs.Moves.Cores.{Core}
 use Rattle.cj_cluster.specs.Moves.Moves.{with_read, was_answered, still_reading}
 use Rattle.cj_state.specs.Effects.{Covers}
 
--- after a failure the read is refused where each backend that serves it has failed in it, and else it stays open
+-- after a failure the read is refused if each backend that serves it has failed in it, and else stays open
 abbrev pub RefusesOrStays : Core → ℕ → Select → ℕ → ℕ → Moved → Core → Type 0
 RefusesOrStays c s select tried serving m z =
     (Covers tried serving × (m ≡ moved.Refused (record { code = READ_FAULT; a = serving; b = 0 })) × (z ≡ with_read c s was_answered))
     ⊎ (¬ Covers tried serving × (m ≡ moved.Failed) × (z ≡ with_read c s (still_reading select tried)))
 
--- a backend's answer, as what a move gave
+-- the result of the move for a backend's answer
 abbrev pub answer_given : Asked → Moved
 answer_given (asked.Rows a) = moved.Rows a
 answer_given (asked.Refused r) = moved.Refused r

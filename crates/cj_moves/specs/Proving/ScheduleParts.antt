@@ -14,13 +14,13 @@ pub record CanCountOne (c : Core) (s : ℕ) : Type 0 where
   pub idle : is_waiting c s ≡ false
   pub no_read : (session_at c s).reading ≡ None
 
--- what a move gives of which this came: an entry's number, or a refusal; none where memory was wanting
+-- the result of the move for an entry's number or a refusal; without a refusal memory ran out
 abbrev pub schedule_given : Result ℕ (Option Refusal) → MoveResult
 schedule_given (Ok n) = Ok (moved.Entry n)
 schedule_given (Err (Some refusal)) = Ok (moved.Refused refusal)
 schedule_given (Err None) = Err NoMemory
 
--- A request of session s was scheduled, or not; where it was refused it is yet to be counted.
+-- a request of session s was scheduled, or refused and is yet to be counted
 abbrev pub SchedulesUncounted : Core → ℕ → Request → Result ℕ (Option Refusal) → Core → Type 0
 SchedulesUncounted c s r (Ok n) z = SchedulesRequest c s r (Ok (moved.Entry n)) z
 SchedulesUncounted c s r (Err (Some refusal)) z = CanCountOne z s × SchedulesRequest c s r (Ok (moved.Refused refusal)) (with_request_counted z s)

@@ -1,4 +1,4 @@
--- How far serving a session has come, and what one step of it comes to.
+-- How far serving a session has come, and what one step of it does.
 use Rattle.std.specs.Prelude.{◌≡◌, ◌≢◌, ℕ, ◌+◌, ◌*◌, ◌<◌, ◌≤◌, List, [], ◌++◌, length, take, Result}
 use Rattle.std.specs.declared.option.Option.{Option}
 use Rattle.std.specs.declared.option.Option.TheVariants.{None, Some}
@@ -22,25 +22,25 @@ use Rattle.cj_session.specs.Serving.{ReachesEnd}
 
 -- ---- parts
 
--- what stands in the place of a reply that has no frame
+-- the refusal that is sent instead of a reply without a frame
 abbrev pub refusal_in_place : ReplyError → Refusal
 refusal_in_place (errors.TooLarge size) = record { code = TOO_LARGE; a = size; b = 0 }
 refusal_in_place errors.Malformed = refusal_of_code NO_MEMORY
 refusal_in_place errors.NoMemory = refusal_of_code NO_MEMORY
 
--- what stands for the reply was written whole, or at an error a front of it
+-- the reply, or the refusal sent instead of it, was written whole, or in part at an error
 pub record SendsReplyTo (held held' : Option (List ℕ)) (reply : Reply) (result : Result (Unit {0}) OutError) : Type 0 where
   pub sent : Reply
   pub stands : SendsReply reply sent
   pub wrote : WritesAll held held' (reply_bytes sent) result
 
--- the message was answered, and its reply was written whole, or at an error a front of it
+-- the message was answered, and its reply was written whole, or in part at an error
 pub record ExchangesMessage {S D : Type 0} (w : SessionSetting S D) (held held' : Option (List ℕ)) (a : ClientState S D) (m : Message) (z : ClientState S D) (result : Result (Unit {0}) OutError) : Type 0 where
   pub sent : Reply
   pub exchange : MessageExchange w a m sent z
   pub wrote : WritesAll held held' (reply_bytes sent) result
 
--- of a reply a front was written that is not the whole
+-- a part of the reply was written, less than the whole
 abbrev pub WritesPart : Option (List ℕ) → Option (List ℕ) → Reply → Type 0
 WritesPart held held' reply = (count : ℕ) × (count < length (reply_bytes reply)) × Appends held held' (take count (reply_bytes reply))
 
@@ -58,7 +58,7 @@ pub record TakesPiece (left left' : Option (List ℕ)) (rest rest' : List ℕ) (
   pub count_is : count' ≡ count + length piece
   pub few : count' ≤ most
 
--- a piece more is held; or it ends, and how
+-- one piece more of the source is held; or the session ends, and how
 abbrev pub FillsFeed : Option (List ℕ) → Option (List ℕ) → List ℕ → List ℕ → ℕ → ℕ → Option SessionEnd → Type 0
 FillsFeed left left' rest rest' count count' None = (piece : List ℕ) × (0 < length piece) × TakesPiece left left' rest rest' count count' piece
 FillsFeed left left' rest rest' count count' (Some end.Eof) = TakesPiece left left' rest rest' count count' [] × IsAtEnd left' × (rest ≡ []) × (count < most)
@@ -70,7 +70,8 @@ FillsFeed left left' rest rest' count count' (Some ending) = ⊥
 
 -- ---- the session
 
--- a moment of a session: what the source has left and the sink holds, the client's session, what is held of the input, and how much was taken of it
+-- a moment of a session: what the source has left and the sink holds, the client's session, what is held of the
+-- input, and how much was taken of it
 pub record SessionPoint (S D : Type 0) : Type 0 where
   pub left : Option (List ℕ)
   pub held : Option (List ℕ)
@@ -78,7 +79,7 @@ pub record SessionPoint (S D : Type 0) : Type 0 where
   pub rest : List ℕ
   pub count : ℕ
 
--- a moment of these parts
+-- the moment of a session that has these parts
 abbrev pub point : {S D : Type 0} → Option (List ℕ) → Option (List ℕ) → ClientState S D → List ℕ → ℕ → SessionPoint S D
 point left held client rest count = record { left = left; held = held; client = client; rest = rest; count = count }
 
@@ -94,7 +95,7 @@ pub record ServesUpTo {S D : Type 0} (w : SessionSetting S D) (p q : SessionPoin
   -- each message takes five bytes at least
   pub paid : 5 * (w.state_of q.client.desk).requests + length q.rest ≤ 5 * (w.state_of p.client.desk).requests + length p.rest + length taken
 
--- from p the session came to this end, where the client's session is z
+-- from p the session came to this end, and z is the client's session then
 pub record ServesToEnd {S D : Type 0} (w : SessionSetting S D) (p : SessionPoint S D) (left held : Option (List ℕ)) (ending : SessionEnd) (z : ClientState S D) : Type 0 where
   pub taken : List ℕ
   pub written : List ℕ

@@ -1,4 +1,4 @@
--- What the code makes of requests and of acts, and how its client agrees with a desk.
+-- How the code sees requests and acts, and how its client agrees with a desk.
 use Rattle.std.specs.Prelude.{◌≡◌, ℕ, ◌≤◌, List, length, IfSome}
 use Rattle.std.specs.declared.option.Option.{Option}
 use Rattle.std.specs.declared.option.Option.TheVariants.{None}
@@ -24,12 +24,13 @@ tx_by_effect n tx effect.Opens = n
 tx_by_effect n tx effect.Closes = 0
 tx_by_effect n tx effect.Keeps = tx
 
--- some text reads as the request
+-- the request is read from some text
 pub record IsReadFromText (request : Request) : Type 0 where
   pub text : List ℕ
   pub reads : TextReadsAs text request
 
--- a client at a desk in this state: its transaction is the session's, its user isn't too long, and without a user it has no transaction
+-- a client at a desk in this state: its transaction is the session's, its user isn't too long, and without a user it
+-- has no transaction
 pub record IsClientAt (user : Option (List ℕ)) (tx : ℕ) (d : DeskState) : Type 0 where
   pub tx_is : tx ≡ desk_tx d
   pub short : IfSome user (λ (u : List ℕ). length u ≤ USER_LIMIT)

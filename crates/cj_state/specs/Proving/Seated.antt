@@ -1,4 +1,4 @@
--- How the book and the cells of a world stand at its board, and what they hear of each other.
+-- How the book and the cells of a world are seated at its board, and what they learn of each other.
 use Rattle.std.specs.Prelude.{◌≡◌, ℕ, ◌+◌, ◌<◌, ◌≤◌, ◌==◌, true, false, if◌then◌else◌, List, [], length, map, slice_get, slice_index_or, Contains}
 use Rattle.std.specs.declared.option.Option.{Option}
 use Rattle.std.specs.declared.option.Option.TheVariants.{None, Some}
@@ -15,11 +15,11 @@ use Rattle.cj_replica.specs.Cells.{CellState}
 use Rattle.cj_replica.specs.Seated.{SeatedCell}
 use Rattle.cj_state.specs.Seats.{states_of, AreCellsAt}
 
--- where the cell of backend b stands
+-- the position of the cell of backend b
 abbrev pub position_in : List CellState → ℕ → Option ℕ
 position_in cells b = slice_index_or (map (λ (x : CellState). x.position) cells) b None
 
--- all of them are at this board
+-- the pass, the book and the cells are at this board
 pub record AreAt (id pass book : TableId) (cells : List SeatedCell) : Type 0 where
   pub of_pass : pass ≡ id
   pub of_book : book ≡ id
@@ -31,7 +31,7 @@ pub record IsReady (book : SeatView) (failed : ℕ) : Type 0 where
   pub none_given : book.last_given ≡ 0
   pub tokens : (k : ℕ) → in_mask failed k ≡ true → 0 < fault_tokens_of k book.fault_tokens
 
--- the book has heard more, and nothing else of it has changed
+-- the book has learned more, and nothing else of it has changed
 pub record HasLearned {S : Type 0} (old new : SeatedBook S) : Type 0 where
   pub state : new.state ≡ old.state
   pub given : new.view.given ≡ old.view.given
@@ -39,13 +39,13 @@ pub record HasLearned {S : Type 0} (old new : SeatedBook S) : Type 0 where
   pub tokens : (k : ℕ) → fault_tokens_of k old.view.fault_tokens ≤ fault_tokens_of k new.view.fault_tokens
   pub notes : (x : ℕ × ℕ) → Contains old.view.position_notes x → Contains new.view.position_notes x
 
--- it has heard of the cell of backend b: where that stands, and each fault that it has a token of
+-- the book has learned the position of backend b's cell, and each fault that the cell has a token of
 pub record HasLearnedOf {S : Type 0} (old : SeatedBook S) (cells : List SeatedCell) (b : ℕ) (new : SeatedBook S) : Type 0 where
   pub heard : HasLearned old new
   pub position : (p : ℕ) → position_in (states_of cells) b ≡ Some p → Contains new.view.position_notes (b, p)
   pub fault : (x : SeatedCell) (k : ℕ) → slice_get cells b ≡ Some x → fault_tokens_of k old.view.fault_tokens + fault_tokens_of k x.view.fault_tokens ≤ fault_tokens_of k new.view.fault_tokens
 
--- each of the first n cells was heard of
+-- the book has learned the position of each of the first n cells
 abbrev pub KnowsPositions : {S : Type 0} → SeatedBook S → List CellState → ℕ → Type 0
 KnowsPositions book cells n = (b p : ℕ) → b < n → position_in cells b ≡ Some p → Contains book.view.position_notes (b, p)
 
@@ -53,14 +53,14 @@ KnowsPositions book cells n = (b p : ℕ) → b < n → position_in cells b ≡ 
 abbrev pub AreNumbered : List CellState → Type 0
 AreNumbered cells = (b : ℕ) (d : CellState) → b < length cells → (slice_index_or cells b d).b ≡ b
 
--- a failure that is noted spends one fault token of its backend at most, and nothing else does
+-- noting a failure of a backend spends at most one of its fault tokens, and nothing else spends any
 abbrev pub SpendsAtMostOne : CellReadError → ℕ → List ℕ → List ℕ → Type 0
 SpendsAtMostOne read_errors.Out b old new = new ≡ old
 SpendsAtMostOne (read_errors.Behind p) b old new = new ≡ old
 SpendsAtMostOne read_errors.Failed b old new = (k : ℕ) → fault_tokens_of k old ≤ fault_tokens_of k new + (if k == b then 1 else 0)
 SpendsAtMostOne read_errors.NoMemory b old new = new ≡ old
 
--- an event, where one comes, that tells of no failure of a backend
+-- the event, if there is one, tells of no failure of a backend
 abbrev pub IsQuiet : Option Event → Type 0
 IsQuiet None = Unit {0}
 IsQuiet (Some e) = (b : ℕ) → notes_failure b e ≡ false

@@ -1,4 +1,4 @@
--- What taking an entry makes of the cells.
+-- What carrying out an entry changes of the cells.
 use Rattle.std.specs.Prelude.{◌≡◌, ℕ, ◌<◌, ◌≤◌, Bool, List, if◌then◌else◌, length, slice_index_or, slice_set}
 use Rattle.std.specs.declared.result.Result.{Result}
 use Rattle.std.specs.declared.result.Result.TheVariants.{Ok, Err}
@@ -26,7 +26,7 @@ use Rattle.cj_model.specs.Cluster.Accounts.{login_of}
 use Rattle.cj_state.specs.Faults.{did_fail}
 use Rattle.cj_state.specs.CalledLogins.{logins_of, next_user, LogsInToTake}
 
--- Backend b can take the entry at its position.
+-- backend b can carry out the entry after its position
 pub record CanTake (tells : Bool) (l : Layout) (h : List Event) (cells : List CellState) (b : ℕ) : Type 0 where
   pub within : b < length cells
   pub is : (d : CellState) → IsCell tells (placement_of l) (log h) b (slice_index_or cells b d)
@@ -36,14 +36,14 @@ pub record CanTake (tells : Bool) (l : Layout) (h : List Event) (cells : List Ce
   pub short : length (log h) ≤ EVENT_LIMIT
   pub fits : AreFit (log h)
 
--- what a cell did
+-- what a cell did with an entry, as moves report it
 abbrev pub did_of : Result Caught CellError → Did
 did_of (Ok caught.Skipped) = did.Skipped
 did_of (Ok (caught.Did o)) = did.Done o
 did_of (Err errors.Failed) = did.Failed
 did_of (Err errors.Starved) = did.Starved
 
--- Backend b took the entry at its position, and its cell alone was changed.
+-- backend b carried out or skipped the entry after its position, and only its cell has changed
 pub record TookEntry (tells : Bool) (accounts : List Account) (l : Layout) (h : List Event) (cells : List CellState) (b : ℕ) (d : Did) (now : List CellState) : Type 0 where
   pub cell : CellState
   pub set : now ≡ slice_set cells b cell
