@@ -11,7 +11,7 @@ use Rattle.hex.specs.Hex.{decode_of, is_hex_digit}
 abbrev pub is_digest : List ℕ → Bool
 is_digest text = length text == 64 && list_all is_hex_digit text
 
--- whether these are the bytes that were read
+-- whether the digits were read as these bytes
 abbrev pub reads_as : Result (List ℕ) FromHexError → List ℕ → Bool
 reads_as (Ok read) bytes = bytes_eq read bytes
 reads_as (Err e) bytes = false

@@ -20,7 +20,7 @@ pub record IsUserName (user : List ℕ) : Type 0 where
   pub text : IsText user
   pub short : length user ≤ USER_LIMIT
 
--- each with its key and with a login for each backend, and an empty login for users that have none
+-- each account has its key, a user's name and a login for each backend; users without an account have an empty login
 pub record AreKeptAccounts (credentials : List Credential) (backends : ℕ) (empty : List ℕ) : Type 0 where
   pub users : All (λ (credential : Credential). IsUserName credential.account.user) credentials
   pub keys : All HasKey credentials

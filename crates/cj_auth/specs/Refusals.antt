@@ -8,7 +8,7 @@ use Rattle.cj_auth.specs.declared.error.AuthError.{AuthError}
 use Rattle.cj_auth.specs.declared.error.AuthError.TheVariants.{Twice, BadDigest, LoginCount}
 use Rattle.cj_auth.specs.Digests.{is_digest}
 
--- a user that is listed twice; or else one whose digest isn't one; or else one that doesn't have a login for each backend
+-- why accounts are refused: a user is listed twice, or else a digest isn't one, or else a user's logins don't match
 abbrev pub refusal_of_accounts : List Account → ℕ → Option AuthError
 refusal_of_accounts accounts backends =
     option_or (option_map Twice (repeated_user [] accounts))

@@ -16,13 +16,13 @@ use sha2::{Digest, Sha256};
 use std::alloc::Global;
 use std::marker::Model;
 
-/// Who may log in, and under which login each backend is called for a user. Backends go by their
-/// number, from 0.
+/// The accounts: who may log in, and under which login each backend is called for a user.
+/// Backends go by their number, from 0.
 #[derive(Drop)]
 pub struct Accounts {
     credentials: ListOf<Credential>,
     backends: u8,
-    /// The login that is lent where no account is the user's.
+    /// The empty login, which is lent if no account is the user's.
     empty: Text,
 }
 
@@ -39,7 +39,9 @@ impl Model for Accounts {
 }
 
 impl Accounts {
-    /// The accounts of the rows, each of which has one login for each backend.
+    /// The accounts of these rows. Each has one login for each of so many backends.
+    ///
+    /// The error is the first thing that is wrong with the rows, or `NoMemory`.
     pub fn new(alloc: Global, rows: AccountRows, backends: u8) -> Result<Accounts, AuthError>
         requires { HasShortUsers rows }
         ensures accounts { IfOk result (λ a. a.accounts ≡ rows) }
@@ -55,7 +57,7 @@ impl Accounts {
         })
     }
 
-    /// Whether the user has this password. It takes no memory.
+    /// Whether an account has this user and this password; allocates nothing.
     pub fn check(&self, user: &[u8], password: &[u8]) -> bool
         ensures admitted { result ≡ admits self.now.accounts user.now password.now }
         ensures user { OnTrue result (IsUserName user.now) }
@@ -63,7 +65,7 @@ impl Accounts {
         has_key(self.credentials.as_slice(), user, &Sha256::digest(password))
     }
 
-    /// The user's login at a backend; the empty text where no account is the user's.
+    /// The user's login at backend `b`; the empty text if no account is the user's.
     pub fn mapped(&self, user: &Text, b: u8) -> &Text
         requires { b < self.now.backends }
         ensures { result.now ≡ login_of self.now.accounts user.now b }

@@ -1,4 +1,4 @@
-//! Accounts with what their digests spell.
+//! Accounts with the bytes that their digests spell.
 
 ghost use Rattle.std.specs.Prelude.{◌≡◌, ◌≤◌, ◌&&◌, find, length, option_copied, true, All, IfOk};
 ghost use Rattle.std.specs.List.{list_any};
@@ -41,7 +41,7 @@ fn with_key(account: Account) -> Credential
     }
 }
 
-/// The accounts with their keys.
+/// The accounts, each with the bytes that its digest spells. Fails if memory runs out.
 pub fn with_keys(alloc: Global, accounts: AccountRows) -> Result<ListOf<Credential>, NoMemory>
     requires digests { All (λ account. is_digest account.digest ≡ true) accounts }
     requires users { HasShortUsers accounts }
@@ -65,7 +65,7 @@ pub fn has_key(credentials: &[Credential], user: &[u8], key: &[u8; 32]) -> bool
     })
 }
 
-/// The account of the user; none exactly where none is the user's.
+/// The first account of the user; `None` exactly if there is none.
 pub fn find_user<'a>(credentials: &'a [Credential], user: &[u8]) -> Option<&'a Credential>
     ensures { option_copied result ≡ find (λ credential. is_account_of user.now credential.account) credentials.now }
 {

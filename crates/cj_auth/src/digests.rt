@@ -7,7 +7,7 @@ ghost use Rattle.cj_auth.specs.Digests as digests;
 
 use hex::FromHex;
 
-/// Whether the text is 64 hexadecimal digits.
+/// Whether the text is 64 hexadecimal digits, in either case.
 pub fn is_digest(text: &[u8]) -> bool
     ensures { result ≡ digests.is_digest text.now }
 {
@@ -22,7 +22,7 @@ pub fn key_of(digest: &[u8]) -> [u8; 32]
     <[u8; 32] as FromHex>::from_hex(digest).unwrap()
 }
 
-/// Whether two keys are alike. Every byte is compared, wherever they differ.
+/// Whether two keys are equal. Every byte is compared, wherever the first difference is.
 pub fn is_same_key(key: &[u8; 32], other: &[u8; 32]) -> bool
     ensures { result ≡ bytes_eq key.now other.now }
 {

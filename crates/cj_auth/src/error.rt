@@ -6,13 +6,13 @@ use thiserror::Error;
 /// What is wrong with a list of accounts.
 #[derive(Debug, Drop, Error)]
 pub enum AuthError {
-    /// A user that has an account before this one.
+    /// This user has two accounts.
     #[error("a user is listed twice")]
     Twice(Text),
-    /// A user whose digest isn't 64 hexadecimal digits.
+    /// The digest of this user isn't 64 hexadecimal digits.
     #[error("the digest of a user is not 64 hexadecimal digits")]
     BadDigest(Text),
-    /// A user that doesn't have one login for each backend.
+    /// This user doesn't have one login for each backend.
     #[error("a user does not have one login for each backend")]
     LoginCount(Text),
     #[error("out of memory")]

@@ -1,4 +1,4 @@
-//! What is refused as a list of accounts.
+//! Which lists of accounts are refused, and why.
 
 ghost use Rattle.std.specs.Prelude.{◌≡◌, ◌⊎◌, [], length, not, option_copied, IfErr, IfOk, IsOk, None, Some};
 ghost use Rattle.cj_model.specs.Cluster.Accounts as accounts;
@@ -26,7 +26,7 @@ fn repeated_user(alloc: Global, rows: &[Account]) -> Result<Option<&Text>, NoMem
     Ok(None)
 }
 
-/// The first user whose digest isn't one.
+/// The first user whose digest isn't 64 hexadecimal digits.
 fn user_without_digest(rows: &[Account]) -> Option<&Text>
     ensures { option_copied result ≡ user_where (λ account. not (is_digest account.digest)) rows.now }
 {
@@ -44,7 +44,7 @@ fn user_without_logins(rows: &[Account], backends: u8) -> Option<&Text>
         .map(|account| &account.user)
 }
 
-/// Passes accounts in which nothing is wrong, and else says what is wrong first.
+/// Passes accounts with which nothing is wrong. The error is the first thing that is wrong, or `NoMemory`.
 pub fn refuse(alloc: Global, rows: &[Account], backends: u8) -> Result<(), AuthError>
     ensures passed { IsOk result → refusal_of_accounts rows.now backends ≡ None }
     ensures refused { IfErr result (λ e. (e ≡ error.NoMemory) ⊎ (refusal_of_accounts rows.now backends ≡ Some e)) }

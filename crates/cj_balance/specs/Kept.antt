@@ -9,7 +9,7 @@ use Rattle.cj_balance.specs.declared.balancer.TheConstants.{MOST_WEIGHT}
 abbrev pub AreWeights : List ℕ → Type 0
 AreWeights weights = (k : ℕ) → k < BACKEND_LIMIT → (0 < slice_index weights k) × (slice_index weights k ≤ MOST_WEIGHT)
 
--- there is a count for each backend, which fits 32 bits
+-- there is a count for each of 16 backends, which fits 32 bits
 abbrev pub AreCounts : List ℕ → Type 0
 AreCounts counts = (length counts ≡ BACKEND_LIMIT) × ((k : ℕ) → k < BACKEND_LIMIT → slice_index counts k < 2 ^ 32)
 
@@ -28,7 +28,7 @@ pub record IsFirstBelow (ahead : ℕ → ℕ → Bool) (candidates limit b : ℕ
   pub none_ahead : (k : ℕ) → k < limit → in_mask candidates k ≡ true → ahead k b ≡ false
   pub lower : (k : ℕ) → k < b → in_mask candidates k ≡ true → ahead b k ≡ true
 
--- the first of the candidates below a limit, or none where there are none
+-- the answer is the first of the candidates below a limit, or that there are none
 abbrev pub FirstBelow : (ℕ → ℕ → Bool) → ℕ → ℕ → Option ℕ → Type 0
 FirstBelow ahead candidates limit None = (k : ℕ) → k < limit → in_mask candidates k ≡ false
 FirstBelow ahead candidates limit (Some b) = IsFirstBelow ahead candidates limit b

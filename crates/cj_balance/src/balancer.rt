@@ -11,9 +11,9 @@ use std::marker::Model;
 /// The greatest weight of a backend.
 pub const MOST_WEIGHT: u16 = 1000;
 
-/// What picks a backend for each read, which contracts see with its policy, the weights and how things stand.
+/// Picks a backend for each read, by a policy, weights, and counts of picks and pending reads.
 ///
-/// A mask of candidates has bit b for backend b. No call takes memory.
+/// A mask of candidates has bit b for backend b. No call allocates.
 #[derive(Drop)]
 pub struct Balancer {
     policy: Policy,
@@ -22,7 +22,7 @@ pub struct Balancer {
     last: Option<u8>,
     /// How often each backend was picked; only the weighted policy counts that.
     used: [u32; BACKEND_LIMIT as usize],
-    /// How many reads of each backend began and haven't ended.
+    /// How many reads at each backend began and haven't ended.
     pending: [u32; BACKEND_LIMIT as usize],
 }
 
@@ -37,7 +37,7 @@ impl Model for Balancer {
     ghost invariant = { λ b. KeepsBalance b.weights b.last b.used b.pending };
 }
 
-/// The steps up from one backend to another, where 0 comes after 15.
+/// How many steps up it is from one backend to another, where 0 comes after 15.
 fn steps_from(last: u8, b: u8) -> u8
     requires from { last < BACKEND_LIMIT }
     requires to { b < BACKEND_LIMIT }
@@ -61,7 +61,7 @@ fn steps_to(last: Option<u8>, b: u8) -> u8
     }
 }
 
-/// One more at `b`.
+/// Counts one more at `b`.
 fn count_up(counts: &mut [u32; BACKEND_LIMIT as usize], b: u8)
     requires below { b < BACKEND_LIMIT }
     requires room { slice_index counts.old b + 1 < 2 ^ 32 }
@@ -70,7 +70,7 @@ fn count_up(counts: &mut [u32; BACKEND_LIMIT as usize], b: u8)
     counts[b as usize] += 1;
 }
 
-/// Begins all counts again at 0 where that of `b` can't grow.
+/// Sets all counts to 0 if that of `b` can't grow.
 fn make_room(used: &mut [u32; BACKEND_LIMIT as usize], b: u8)
     requires { b < BACKEND_LIMIT }
     ensures { used.new ≡ with_room used.old b }
@@ -80,7 +80,7 @@ fn make_room(used: &mut [u32; BACKEND_LIMIT as usize], b: u8)
     }
 }
 
-/// Counts a pick of `b` where the policy counts picks.
+/// Counts a pick of `b`, if the policy counts picks.
 fn count_pick(policy: Policy, used: &mut [u32; BACKEND_LIMIT as usize], b: u8)
     requires { b < BACKEND_LIMIT }
     ensures { used.new ≡ used_after policy used.old b }
@@ -122,7 +122,7 @@ impl Balancer {
         left < right
     }
 
-    /// Whether `a` has a better claim to the next read than `b`.
+    /// Whether the policy prefers `a` to `b` for the next read.
     fn is_ahead(&self, a: u8, b: u8) -> bool
         requires left { a < BACKEND_LIMIT }
         requires right { b < BACKEND_LIMIT }
@@ -136,7 +136,7 @@ impl Balancer {
         }
     }
 
-    /// The first of the candidates up to `b`, from the first of those below it.
+    /// The first of the candidates up to `b`, from the `first` of those below `b`.
     fn first_with(&self, candidates: u32, first: Option<u8>, b: u8) -> Option<u8>
         requires below { b < BACKEND_LIMIT }
         requires so_far { IsFirstOrNone self.now candidates b first }
@@ -157,7 +157,7 @@ impl Balancer {
         }
     }
 
-    /// The first of the candidates.
+    /// The first of the candidates by the policy; `None` if there are none.
     fn first(&self, candidates: u32) -> Option<u8>
         ensures { IsFirstOrNone self.now candidates BACKEND_LIMIT result }
     {
@@ -168,7 +168,7 @@ impl Balancer {
         first
     }
 
-    /// Keeps that `b` was picked.
+    /// Records that `b` was picked.
     fn record_pick(&mut self, b: u8)
         requires { b < BACKEND_LIMIT }
         ensures { self.new ≡ record self.old { standing = picked self.old.policy self.old.standing b } }
@@ -177,7 +177,7 @@ impl Balancer {
         count_pick(self.policy, &mut self.used, b);
     }
 
-    /// Picks one of the candidates, which are all below `BACKEND_LIMIT`; None exactly where there are none.
+    /// Picks one of the candidates, all below `BACKEND_LIMIT`, and counts the pick. `None` exactly if there are none.
     pub fn pick(&mut self, candidates: u32) -> Option<u8>
         requires { candidates < 2 ^ BACKEND_LIMIT }
         ensures none { IsNone result ↔ (candidates ≡ 0) }
@@ -190,7 +190,7 @@ impl Balancer {
         Some(b)
     }
 
-    /// How many reads are pending at `b`.
+    /// How many reads are pending at backend `b`.
     pub fn pending(&self, b: u8) -> u32
         requires { b < BACKEND_LIMIT }
         ensures { result ≡ slice_index self.now.standing.pending b }
@@ -198,7 +198,7 @@ impl Balancer {
         self.pending[b as usize]
     }
 
-    /// A read began at `b`, which has fewer than 2^32 - 1 of them pending.
+    /// Counts a read that began at backend `b`, which has fewer than 2^32 - 1 pending.
     pub fn began(&mut self, b: u8)
         requires below { b < BACKEND_LIMIT }
         requires room { slice_index self.old.standing.pending b < 2 ^ 32 - 1 }
@@ -208,7 +208,7 @@ impl Balancer {
         count_up(&mut self.pending, b);
     }
 
-    /// A read ended at `b`, which has some pending.
+    /// Counts a read that ended at backend `b`, which has some pending.
     pub fn ended(&mut self, b: u8)
         requires below { b < BACKEND_LIMIT }
         requires some { 0 < slice_index self.old.standing.pending b }

@@ -1,4 +1,4 @@
--- What a session has in the history, and the number of the next one.
+-- The events of a session in the history, and the number of the next session.
 use Rattle.std.specs.Prelude.{ℕ, suc, ◌+◌, Bool, ◌&&◌, ◌==◌, List, [], ◌∷◌, ◌++◌, map, max, count_by, filter_map}
 use Rattle.std.specs.declared.option.Option.{Option}
 use Rattle.std.specs.declared.option.Option.TheVariants.{None, Some}
@@ -27,7 +27,7 @@ log_failure_session (Marker name b) = None
 abbrev pub log_failure_sessions : List Event → List ℕ
 log_failure_sessions h = filter_map log_failure_session h
 
--- how many events are session s's: its entries, the administrator's in its transactions, and the failures of the log's store in its requests
+-- how many events are session s's: its entries, the administrator's in its transactions, and log failures it met
 abbrev pub event_count_of : ℕ → List Event → ℕ
 event_count_of s h = entry_count_of s h + count_by (ends_transaction_of s (log h)) (log h) + count_by (λ t. t == s) (log_failure_sessions h)
 

@@ -1,5 +1,6 @@
 -- The board's rule: what holds between any two steps, one definition for each point.
--- Word 0 is the length of the history. Word 2 b + 1 is the position of backend b, or that it is out, and word 2 b + 2 its number of faults.
+-- Word 0 is the length of the history. Word 2 b + 1 is the position of backend b, or says that it is out.
+-- Word 2 b + 2 is its number of faults.
 -- Each seat has a number, in the order in which they were made, and a view.
 use Rattle.std.specs.Prelude.{◌≡◌, ◌≢◌, ◌⊎◌, ℕ, suc, ◌+◌, ◌*◌, ◌<◌, ◌≤◌, ◌==◌, true, List, [], length, slice_index, count_by, sum_by, All, Contains}
 use mathlib.Core.Option.{some}
@@ -30,7 +31,7 @@ AtEachSeat vs F = (j : ℕ) (v : SeatView) → get_elem? vs j ≡ some v → F j
 
 -- ---- who has which seat
 
--- `who 0` is the book's seat, which has seen the whole history; `who (b + 1)` is that of backend b's cell, where that has been made
+-- `who 0` is the book's seat, which has seen the whole history; `who (b + 1)` is that of backend b's cell, once made
 abbrev pub HasSeat : ℕ → ℕ → (ℕ → ℕ) → List Event → ℕ → Role → List Event → Type 0
 HasSeat n made who h j (Book m) front = (j ≡ who 0) × (m ≡ made) × (front ≡ h)
 HasSeat n made who h j (Cell b p) front = (j ≡ who (suc b)) × (b < made) × (b < n)
@@ -73,13 +74,14 @@ pub record PositionsAreInLog (h : List Event) (ws : List ℕ) (vs : List SeatVie
 
 -- ---- enabled backends have the whole log
 
--- Where no entry is open, each enabled backend stands at the end of the log.
+-- While no entry is open, each enabled backend is at the end of the log.
 abbrev pub EnabledAreAtEnd : List Event → List ℕ → Type 0
 EnabledAreAtEnd h ws = is_free h ≡ true → (b : ℕ) → is_enabled h b ≡ true → position_word ws b ≡ length (log h)
 
 -- ---- cells were at the end of the log
 
--- Wherever history h was idle with backend b enabled, p is the end of the log of that moment, or a longer log was seen.
+-- Wherever history h was idle with backend b enabled, p is the end of the log at that moment,
+-- or a longer log was seen.
 abbrev pub StandsAtEnd : ℕ → ℕ → List Event → List Event → Type 0
 StandsAtEnd b p front h = (m : List Event) → IsPrefix m h → is_free m ≡ true → is_enabled m b ≡ true → (p ≡ length (log m)) ⊎ (length (log m) < length (log front))
 
@@ -88,14 +90,15 @@ CellStandsAtEnd h (Book m) front = Unit {0}
 CellStandsAtEnd h (Cell b p) front = StandsAtEnd b p front h
 CellStandsAtEnd h Pass front = Unit {0}
 
--- Each cell stands at the end of each log at which no entry was open and its backend was enabled, until it has seen a longer one. A cell not made yet stands at 0.
+-- Wherever no entry was open and its backend was enabled, a cell is at the end of that log, or has seen a longer one.
+-- A cell that is not made yet is at 0.
 pub record CellsStandAtEnd (made : ℕ) (h : List Event) (vs : List SeatView) : Type 0 where
   pub cells : AtEachSeat vs (λ j v. CellStandsAtEnd h v.role v.front)
   pub unmade : (b : ℕ) → made ≤ b → StandsAtEnd b 0 [] h
 
 -- ---- notes of positions
 
--- backend b stood at n: n is in the log, and where that is still the end, b is still there
+-- backend b was at n: n is in the log, and if that is still its end, b is still there
 abbrev pub IsPositionNote : List Event → List ℕ → ℕ × ℕ → Type 0
 IsPositionNote h ws x = (x.1 ≤ length (log h)) × (length (log h) ≡ x.1 → position_word ws x.0 ≡ x.1)
 
@@ -122,7 +125,8 @@ fault_tokens_of b tokens = count_by (λ t. t == b) tokens
 abbrev pub all_fault_tokens_of : ℕ → List SeatView → ℕ
 all_fault_tokens_of b vs = sum_by (λ (v : SeatView). fault_tokens_of b v.fault_tokens) vs
 
--- Each note of faults holds; and unless its fault word is full, a backend had a fault of its own for each failure that the history notes of it, and for each token.
+-- Each note of faults holds. Unless its fault word is full, a backend had a fault of its own for each failure
+-- that the history notes of it, and for each token.
 pub record FailuresHaveFaults (h : List Event) (ws : List ℕ) (vs : List SeatView) : Type 0 where
   pub notes : AtEachSeat vs (λ j v. All (IsFaultNote ws) v.fault_notes)
   pub known : AtEachSeat vs (λ j v. KnowsFaults ws v.role v.faults)
@@ -136,7 +140,7 @@ KnowsGiven given last (Book m) g l = (g ≡ given) × (l ≡ last)
 KnowsGiven given last (Cell b p) g l = Unit {0}
 KnowsGiven given last Pass g l = Unit {0}
 
--- the own pass of session s had count n: it has no less now
+-- the own pass of session s had count n, and has no less now
 abbrev pub IsCountNote : ℕ → (ℕ → ℕ) → ℕ × ℕ → Type 0
 IsCountNote last count_of x = (x.1 ≤ count_of x.0) × (x.0 ≤ last)
 
@@ -146,7 +150,8 @@ pub record CountsSessions (given : List ℕ) (last : ℕ) (holder count_of : ℕ
   pub own : 0 < v.own_session → (j ≡ holder v.own_session) × (v.count ≡ count_of v.own_session) × Contains given v.own_session
   pub notes : All (IsCountNote last count_of) v.count_notes
 
--- A session that was given an own pass has no more events in the history than the pass has counted. No other seat has that pass, and no note of its count is higher.
+-- A session that was given an own pass has no more events in the history than the pass has counted.
+-- No other seat has that pass, and no note of its count is higher.
 pub record OwnPassesCount (h : List Event) (vs : List SeatView) : Type 0 where
   pub given : List ℕ
   pub last : ℕ

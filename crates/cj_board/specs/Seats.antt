@@ -39,7 +39,7 @@ pass_view p = p.seat.me.0
 abbrev pub history : BookSeat → List Event
 history s = (book_view s).front
 
--- the beginning of it that a cell, or a pass, has seen
+-- the beginning of the history that a cell has seen, and below that a pass has seen
 abbrev pub seen : CellSeat → List Event
 seen c = (cell_view c).front
 

@@ -14,7 +14,7 @@ use Rattle.cj_board.specs.Views.{next_session}
 
 -- ---- to append an event
 
--- each backend that is enabled after an end, or that becomes enabled, is noted to stand at the end of the log
+-- each backend that is enabled after an end, or that becomes enabled, is noted to be at the end of the log
 abbrev pub HasPositionNotes : List Event → List (ℕ × ℕ) → Event → Type 0
 HasPositionNotes h notes (Sched e) = Unit {0}
 HasPositionNotes h notes (Ended failed starved) = (b : ℕ) → is_enabled (h ++ Ended failed starved ∷ []) b ≡ true → Contains notes (b, length (log h))
@@ -28,16 +28,16 @@ HasPositionNotes h notes (Marker name b) = Unit {0}
 abbrev pub HasFaultTokens : List ℕ → Event → Type 0
 HasFaultTokens tokens e = (b : ℕ) → notes_failure b e ≡ true → 0 < fault_tokens_of b tokens
 
--- where a session with an own pass has one event more, that is counted
+-- if the event is one of a session with an own pass, it is counted
 abbrev pub HasCountNotes : List ℕ → List Event → List (ℕ × ℕ) → Event → Type 0
 HasCountNotes given h notes e = (s : ℕ) → Contains given s → event_count_of s h < event_count_of s (h ++ e ∷ []) → (n : ℕ) × Contains notes (s, n) × (event_count_of s (h ++ e ∷ []) ≤ n)
 
--- one token less of each of these backends
+-- the tokens without one of each of these backends
 abbrev pub spend : (ℕ → Bool) → List ℕ → List ℕ
 spend these [] = []
 spend these (t ∷ ts) = cond (these t) (spend (λ b. cond (eqb b t) false (these b)) ts) (t ∷ spend these ts)
 
--- the event is the last that was seen, and one token is spent for each failure that it notes
+-- the seat after an append: the event is the last it has seen, and one token is spent for each failure noted by it
 abbrev pub after_append : Event → SeatView → SeatView
 after_append e v = record v { front = v.front ++ e ∷ []; fault_tokens = spend (λ b. notes_failure b e) v.fault_tokens }
 
@@ -48,25 +48,25 @@ with_position p (Book m) = Book m
 with_position p (Cell b q) = Cell b p
 with_position p Pass = Pass
 
--- a cell at this position, or out
+-- the seat of a cell at this position, or out
 abbrev pub at_position : ℕ → SeatView → SeatView
 at_position p v = record v { role = with_position p v.role }
 
--- one more, unless the word is full
+-- a fault word with one fault more, unless it is full
 abbrev pub one_fault_more : ℕ → ℕ
 one_fault_more n = cond (leb max_word n) n (n + 1)
 
--- a cell that knows of n faults, with one token more of backend b
+-- the seat of a cell that knows of n faults, with one token more of backend b
 abbrev pub with_faults : ℕ → ℕ → SeatView → SeatView
 with_faults b n v = record v { faults = n; fault_tokens = b ∷ v.fault_tokens }
 
--- backend b failed once more
+-- the seat of a cell after backend b failed once more
 abbrev pub after_fault : ℕ → SeatView → SeatView
 after_fault b v = with_faults b (one_fault_more v.faults) v
 
 -- ---- at a pass
 
--- the position word of backend b was n
+-- the seat of a pass that looked at the position word of backend b, which was n
 abbrev pub after_looking : ℕ → ℕ → SeatView → SeatView
 after_looking b n v = record v { looks = v.looks ++ (b, n) ∷ [] }
 
@@ -78,7 +78,7 @@ word_of_position (Some p) = p
 abbrev pub after_count : SeatView → SeatView
 after_count v = record v { count = v.count + 1 }
 
--- the tokens go to the pass that is cut off
+-- the seat from which a pass was split off, with all tokens
 abbrev pub after_split : SeatView → SeatView
 after_split v = record v { fault_tokens = [] }
 
@@ -87,7 +87,7 @@ after_split v = record v { fault_tokens = [] }
 abbrev pub longer_of : List Event → List Event → List Event
 longer_of g h = cond (leb (length g) (length h)) h g
 
--- the notes and tokens of both
+-- a seat with the notes and tokens of another added
 abbrev pub with_notes : SeatView → SeatView → SeatView
 with_notes v w = record v {
   front_before = v.front;
@@ -98,11 +98,11 @@ with_notes v w = record v {
   fault_tokens = v.fault_tokens ++ w.fault_tokens;
 }
 
--- and the longer front
+-- the seat after a join: with the notes and tokens of both, and the longer front
 abbrev pub after_join : SeatView → SeatView → SeatView
 after_join v w = record (with_notes v w) { front = longer_of v.front w.front }
 
--- the book keeps its front, which is the history
+-- the book's seat after a join: its front, which is the history, stays
 abbrev pub after_learning : SeatView → SeatView → SeatView
 after_learning v w = with_notes v w
 
@@ -116,10 +116,10 @@ one_cell_more Pass = Pass
 abbrev pub after_making_cell : SeatView → SeatView
 after_making_cell v = record v { role = one_cell_more v.role }
 
--- the next session is given an own pass
+-- the book's seat after the next session was given an own pass
 abbrev pub after_opening : SeatView → SeatView
 after_opening v = record v { given = next_session v ∷ v.given; last_given = next_session v }
 
--- an own pass is taken back
+-- the book's seat after an own pass was taken back
 abbrev pub after_closing : SeatView → SeatView → SeatView
 after_closing v w = record (with_notes v w) { given = filter (λ s. not (s == w.own_session)) v.given }

@@ -1,4 +1,4 @@
--- Views of the seats that are made, and of those that are cut from others.
+-- Views of the seats that are made, and of those that are split off others.
 use Rattle.std.specs.Prelude.{◌≡◌, ◌≢◌, ℕ, ◌<◌, ◌≤◌, leb, eqb, cond, List, [], ◌∷◌, ◌++◌, All}
 use Rattle.cj_board.specs.declared.view.SeatView.{SeatView}
 use Rattle.cj_board.specs.declared.view.Role.{Role}
@@ -92,7 +92,7 @@ fault_note_of Pass faults = []
 abbrev pub count_note_of : ℕ → ℕ → List (ℕ × ℕ)
 count_note_of own count = cond (eqb own 0) [] ((own, count) ∷ [])
 
--- a pass with the front and the notes
+-- a pass split off a seat, with its front and notes
 abbrev pub pass_without_tokens : SeatView → SeatView
 pass_without_tokens v = record empty_pass {
   front = v.front;
@@ -101,13 +101,13 @@ pass_without_tokens v = record empty_pass {
   count_notes = v.count_notes ++ count_note_of v.own_session v.count;
 }
 
--- a pass that takes the fault tokens
+-- a pass split off a seat, with its front, notes and fault tokens
 abbrev pub pass_of : SeatView → SeatView
 pass_of v = record (pass_without_tokens v) { fault_tokens = v.fault_tokens }
 
 abbrev pub next_session : SeatView → ℕ
 next_session v = session_after v.last_given v.front
 
--- the own pass of the next session, from the book
+-- the own pass of the next session, split off the book's seat
 abbrev pub own_pass_of : SeatView → SeatView
 own_pass_of v = record (pass_without_tokens v) { own_session = next_session v }

@@ -12,8 +12,8 @@ use cj_model::{ListOf, NoMemory};
 use std::alloc::Global;
 
 impl Board {
-    /// A board of an empty history, with the seats of the book, of a cell for each of the 1 to 16 backends, and of a first pass.
-    /// No other call of a board takes memory.
+    /// Makes a board of an empty history, with its seats: of the book, of a cell for each of the 1 to 16 backends,
+    /// and of a first pass. Fails if memory runs out; no other call of a board allocates.
     pub fn new(alloc: Global, backends: u8) -> Result<(Board, BookSeat, CellSeats, Pass), NoMemory>
         requires { (1 ≤ backends) × (backends ≤ BACKEND_LIMIT) }
         ensures board { IfOk result (λ r. (r.0.backends ≡ backends) × (book_board r.1 ≡ board_id r.0) × (pass_board r.3 ≡ board_id r.0)) }

@@ -76,7 +76,7 @@ impl Play<Event, SeatView> for CheckCount {
     ghost then = { ToldCount };
 }
 
-/// A pass with the front, the notes and the tokens.
+/// Splits a pass off a seat, with its front, notes and tokens.
 pub struct SplitPass;
 
 impl Split<SeatView> for SplitPass {
@@ -85,7 +85,7 @@ impl Split<SeatView> for SplitPass {
     ghost right = { pass_of };
 }
 
-/// A pass with the front and the notes; the tokens stay.
+/// Splits a pass off a seat, with its front and notes; the tokens stay.
 pub struct SplitWithoutTokens;
 
 impl Split<SeatView> for SplitWithoutTokens {
@@ -94,7 +94,7 @@ impl Split<SeatView> for SplitWithoutTokens {
     ghost right = { pass_without_tokens };
 }
 
-/// The seat of the next cell, from the book's.
+/// Splits the seat of the next cell off the book's seat.
 pub struct SplitCell;
 
 impl Split<SeatView> for SplitCell {
@@ -103,7 +103,7 @@ impl Split<SeatView> for SplitCell {
     ghost right = { next_cell_of };
 }
 
-/// The own pass of the next session, from the book's seat.
+/// Splits the own pass of the next session off the book's seat.
 pub struct SplitOwnPass;
 
 impl Split<SeatView> for SplitOwnPass {
@@ -120,7 +120,7 @@ impl Join<SeatView> for JoinPass {
     ghost spent = { empty_pass };
 }
 
-/// To the book, which has the whole history already.
+/// Joins a pass to the book's seat, which has the whole history already.
 pub struct JoinToBook;
 
 impl Join<SeatView> for JoinToBook {

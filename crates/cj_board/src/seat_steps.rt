@@ -18,7 +18,7 @@ use atomic_table::Seat;
 use cj_cluster::Event;
 
 impl Board {
-    // A pass that has seen what the seat has, with its notes and tokens.
+    // Splits off a pass that has seen what the seat has, with its notes and tokens.
     pub(crate) fn split_pass(&self, seat: &mut Seat<Event, SeatView>) -> Seat<Event, SeatView>
         requires { seat.old.table_id ≡ board_id self.now }
         ensures { (seat.new.table_id ≡ seat.old.table_id) × (seat.new.me ≡ (after_split seat.old.me.0, seat.old.me.1)) × (result.table_id ≡ seat.old.table_id) × (result.me ≡ (pass_of seat.old.me.0, [])) }
@@ -26,7 +26,7 @@ impl Board {
         self.table.shared.split_seat::<SplitPass>(seat)
     }
 
-    // The same without the tokens, which stay.
+    // Splits off a pass that has seen what the seat has, with its notes; the tokens stay.
     pub(crate) fn split_without_tokens(
         &self,
         seat: &mut Seat<Event, SeatView>,
@@ -37,7 +37,7 @@ impl Board {
         self.table.shared.split_seat::<SplitWithoutTokens>(seat)
     }
 
-    // The seat has seen what the other has, and has its notes and tokens.
+    // Joins another seat: this one has then seen what either has, with the notes and tokens of both.
     pub(crate) fn join(&self, seat: &mut Seat<Event, SeatView>, other: Seat<Event, SeatView>)
         requires board { (seat.old.table_id ≡ board_id self.now) × (other.table_id ≡ board_id self.now) }
         requires roles { IsNotBook seat.old.me.0.role × (other.me.1 ≡ []) }
@@ -49,8 +49,8 @@ impl Board {
         self.table.shared.load::<CompareFronts>(seat, 0);
     }
 
-    // The book has the other's notes and tokens. It has seen what the other has already, and gave each session of a count
-    // that the other has noted.
+    // Joins another seat to the book's, which gets its notes and tokens. The book has seen what the other has,
+    // and gave each session of a count that the other has noted.
     pub(crate) fn join_to_book(
         &self,
         seat: &mut Seat<Event, SeatView>,
@@ -66,7 +66,7 @@ impl Board {
         self.table.shared.load::<CompareFronts>(seat, 0);
     }
 
-    // The position word of b.
+    // Loads the position word of b.
     pub(crate) fn load_position(&self, seat: &mut Seat<Event, SeatView>, b: u8) -> u64
         requires board { seat.old.table_id ≡ board_id self.now }
         requires backend { b < self.now.backends }
@@ -77,7 +77,7 @@ impl Board {
         self.table.shared.load::<LoadPosition>(seat, word)
     }
 
-    // One fault more of the cell's backend. The cell alone writes the word, so a load and a store are one step.
+    // Counts a fault of the cell's backend. The cell alone writes the word, so a load and a store are one step.
     pub(crate) fn add_fault(&self, seat: &mut Seat<Event, SeatView>, b: u8)
         requires board { seat.old.table_id ≡ board_id self.now }
         requires cell { IsCellOf b seat.old.me.0.role × (2 * b + 1 < seat.old.table_id.words) }

@@ -11,7 +11,7 @@ use cj_cluster::Event;
 use cj_model::ListOf;
 use std::alloc::Global;
 
-/// Atomic words: how long the history is, and of each backend its position and its number of faults.
+/// A board: atomic words for the length of the history, and for each backend's position and number of faults.
 #[derive(Drop)]
 pub struct Board {
     pub(crate) table: Table<Event, SeatView, u64, BoardRule, Global>,
@@ -41,7 +41,7 @@ pub struct CellSeat {
     ghost known: { b < BACKEND_LIMIT },
 }
 
-/// What a thread carries from lock to lock. It takes no bytes.
+/// What a thread carries from lock to lock: what it has seen and noted. A pass has no bytes at run time.
 #[derive(Drop)]
 pub struct Pass {
     pub(crate) seat: Seat<Event, SeatView>,
@@ -53,7 +53,7 @@ pub struct Pass {
 pub type CellSeats = ListOf<CellSeat>;
 
 impl BookSeat {
-    /// The number of events.
+    /// How many events the history has.
     pub fn len(&self) -> u64
         ensures { result ≡ length self.now.seat.me.0.front }
     {
@@ -62,7 +62,7 @@ impl BookSeat {
 }
 
 impl CellSeat {
-    /// The backend's number.
+    /// The number of the cell's backend.
     pub fn backend(&self) -> u8
         ensures { result ≡ self.now.b }
     {

@@ -1,4 +1,4 @@
-// The steps of a board. Each says the whole view of each seat after it.
+// The steps of a board. Each contract says the whole view of each seat after the step.
 ghost use Rattle.std.specs.Prelude.{◌≡◌, ℕ, ◌+◌, ◌<◌, ◌≤◌, [], ◌∷◌, ◌++◌, length, Contains, IfSome};
 ghost use mathlib.Core.List.{IsPrefix};
 ghost use Rattle.cj_model.specs.declared.limits.TheConstants.{EVENT_LIMIT};
@@ -19,7 +19,10 @@ use cj_cluster::Event;
 
 // The book's seat.
 impl Board {
-    /// The history is longer by the event.
+    /// Appends an event to the history, which the board's length word then counts.
+    ///
+    /// The event must be allowed next. The book must have a fault token for each failure that the event notes.
+    /// The token is spent. The book must also have notes of each position and count that the event relies on.
     pub fn append(&self, s: &mut BookSeat, e: &Event)
         requires board { book_board s.old ≡ board_id self.now }
         requires legal { IsLegal (history s.old ++ e.now ∷ []) }
@@ -36,7 +39,7 @@ impl Board {
         s.events = events + 1;
     }
 
-    /// The pass has seen the book's history, and each has the other's notes. The fault tokens stay.
+    /// Tells a pass the whole history, and exchanges the notes of both. The fault tokens stay where they are.
     /// The session of an own pass is one that the book gave.
     pub fn tell(&self, s: &mut BookSeat, p: &mut Pass)
         requires board { (book_board s.old ≡ board_id self.now) × (pass_board p.old ≡ board_id self.now) }
@@ -53,7 +56,8 @@ impl Board {
         self.join(&mut p.seat, told);
     }
 
-    /// The book has the pass's notes, and takes its fault tokens. The session of an own pass is one that the book gave.
+    /// Gives the book the notes of a pass, and moves its fault tokens to the book.
+    /// The session of an own pass is one that the book gave.
     pub fn learn(&self, s: &mut BookSeat, p: &mut Pass)
         requires board { (book_board s.old ≡ board_id self.now) × (pass_board p.old ≡ board_id self.now) }
         ensures board { (book_board s.new ≡ book_board s.old) × (pass_board p.new ≡ pass_board p.old) }
@@ -66,7 +70,8 @@ impl Board {
         self.join_to_book(&mut s.seat, copy);
     }
 
-    /// The session's own pass, with count 0. The session is the next after those that were given one, and those in the history.
+    /// Makes a session's own pass, with count 0.
+    /// The session is the next after those that were given an own pass, and after those in the history.
     pub fn open_own(&self, s: &mut BookSeat, session: u64) -> Pass
         requires board { book_board s.old ≡ board_id self.now }
         requires next { session ≡ next_session (book_view s.old) }
@@ -79,7 +84,7 @@ impl Board {
         Pass { seat }
     }
 
-    /// Takes an own pass back, which has seen a beginning of the history: its session counts its events no longer.
+    /// Takes an own pass back, with its notes and fault tokens. The events of its session are counted no longer.
     pub fn close_own(&self, s: &mut BookSeat, p: Pass)
         requires board { (book_board s.old ≡ board_id self.now) × (pass_board p ≡ board_id self.now) }
         requires own { 0 < (pass_view p).own_session }
@@ -97,7 +102,7 @@ impl Board {
 
 // The cells' seats.
 impl Board {
-    /// The position is one higher.
+    /// Raises the position of the cell's backend by one. It must be below the end of the log that the cell has seen.
     pub fn advance(&self, c: &mut CellSeat)
         requires board { cell_board c.old ≡ board_id self.now }
         requires below { position c.old < length (log (seen c.old)) }
@@ -111,7 +116,7 @@ impl Board {
             .fetch_add::<AdvancePosition>(&mut c.seat, word, 1);
     }
 
-    /// The backend is out.
+    /// Marks the cell's backend as out. Its position must be below the end of the log that the cell has seen.
     pub fn out(&self, c: &mut CellSeat)
         requires board { cell_board c.old ≡ board_id self.now }
         requires below { position c.old < length (log (seen c.old)) }
@@ -124,7 +129,7 @@ impl Board {
             .store::<StorePosition>(&mut c.seat, word, u64::MAX);
     }
 
-    /// A backend that is out stands at the position from now on.
+    /// Gives a backend that is out this position, which is within the log that the cell has seen.
     pub fn settle(&self, c: &mut CellSeat, position: u64)
         requires board { cell_board c.old ≡ board_id self.now }
         requires out { role_position (cell_view c.old).role ≡ max_word }
@@ -138,7 +143,7 @@ impl Board {
             .store::<StorePosition>(&mut c.seat, word, position);
     }
 
-    /// The backend failed once more: the cell has one more fault token of it, and its fault word is one higher, unless it is full.
+    /// Counts a failure of the cell's backend. The cell gets a fault token; the fault word rises if it isn't full.
     pub fn note_fault(&self, c: &mut CellSeat)
         requires board { cell_board c.old ≡ board_id self.now }
         ensures board { (cell_board c.new ≡ cell_board c.old) × (c.new.b ≡ c.old.b) }
@@ -148,9 +153,11 @@ impl Board {
         self.add_fault(&mut c.seat, b);
     }
 
-    /// The backend has at least the faults that its cell has noted, and its position is in the log that the cell has seen.
-    /// Wherever the history seen was idle with the backend enabled, it stands at the end of that log, or the cell has seen
-    /// a longer one.
+    /// Shows what the rule says of the cell's backend; no view changes.
+    ///
+    /// The backend has at least the faults that its cell has noted, and a position in the log that the cell has seen.
+    /// Wherever the history seen was idle with the backend enabled, the position is the end of the log there,
+    /// or the cell saw a longer one.
     pub fn check_cell(&self, c: &mut CellSeat)
         requires board { cell_board c.old ≡ board_id self.now }
         ensures board { (cell_board c.new ≡ cell_board c.old) × (c.new.b ≡ c.old.b) }
@@ -162,8 +169,10 @@ impl Board {
         self.table.shared.load::<CheckCell>(&mut c.seat, 0);
     }
 
-    /// The cell has seen the pass's history, which is legal, and its backend has at least the faults that the pass noted.
-    /// It stands where `check_cell` says.
+    /// Tells a cell the history that a pass has seen, and the pass's notes. The pass is unchanged.
+    ///
+    /// That history is legal. The backend has at least the faults that the pass noted, and its position is as
+    /// `check_cell` says.
     pub fn brief(&self, c: &mut CellSeat, p: &mut Pass)
         requires board { (cell_board c.old ≡ board_id self.now) × (pass_board p.old ≡ board_id self.now) }
         ensures board { (cell_board c.new ≡ cell_board c.old) × (c.new.b ≡ c.old.b) × (pass_board p.new ≡ pass_board p.old) }
@@ -179,8 +188,10 @@ impl Board {
         self.check_cell(c);
     }
 
-    /// The pass has seen the cell's history, has its notes, one of its faults and, unless it is out, one of its position, and
-    /// takes its fault tokens. The backend stands where `check_cell` says.
+    /// Tells a pass the history that a cell has seen, with the cell's notes, and moves its fault tokens to the pass.
+    ///
+    /// The pass also gets a note of the backend's faults and, unless it is out, of its position. That position is as
+    /// `check_cell` says.
     pub fn report(&self, c: &mut CellSeat, p: &mut Pass)
         requires board { (cell_board c.old ≡ board_id self.now) × (pass_board p.old ≡ board_id self.now) }
         ensures board { (cell_board c.new ≡ cell_board c.old) × (c.new.b ≡ c.old.b) × (pass_board p.new ≡ pass_board p.old) }
@@ -201,7 +212,7 @@ impl Board {
 
 // Passes.
 impl Board {
-    /// Another pass that has seen the same, with the same notes. The fault tokens stay.
+    /// Makes another pass that has seen the same, with the same notes. The fault tokens stay with the first.
     pub fn split(&self, p: &mut Pass) -> Pass
         requires board { pass_board p.old ≡ board_id self.now }
         ensures board { (pass_board p.new ≡ pass_board p.old) × (pass_board result ≡ pass_board p.old) }
@@ -212,7 +223,7 @@ impl Board {
         Pass { seat }
     }
 
-    /// The pass has seen what the other has, and has its notes and fault tokens.
+    /// Joins another pass: this one has then seen what either has, with the notes and fault tokens of both.
     pub fn rejoin(&self, p: &mut Pass, q: Pass)
         requires board { (pass_board p.old ≡ board_id self.now) × (pass_board q ≡ board_id self.now) }
         ensures board { pass_board p.new ≡ pass_board p.old }
@@ -223,7 +234,7 @@ impl Board {
         self.join(&mut p.seat, seat);
     }
 
-    /// The position of backend b at a moment of the call, or `None` where it was out.
+    /// Looks up the position of backend `b` at a moment of the call; `None` if the backend was out then.
     pub fn look(&self, p: &mut Pass, b: u8) -> Option<u64>
         requires board { pass_board p.old ≡ board_id self.now }
         requires backend { b < self.now.backends }
@@ -235,7 +246,7 @@ impl Board {
         if found == u64::MAX { None } else { Some(found) }
     }
 
-    /// The count of an own pass is one higher.
+    /// Raises the count of an own pass by one.
     pub fn count(&self, p: &mut Pass)
         requires board { pass_board p.old ≡ board_id self.now }
         requires own { 0 < (pass_view p.old).own_session }
@@ -245,7 +256,8 @@ impl Board {
         self.table.shared.load::<CountUp>(&mut p.seat, 0);
     }
 
-    /// The session of an own pass has no more events in what the pass has seen than were counted.
+    /// Shows that the session of an own pass has no more events, in what the pass has seen, than it has counted.
+    /// No view changes.
     pub fn check_count(&self, p: &mut Pass)
         requires board { pass_board p.old ≡ board_id self.now }
         ensures board { pass_board p.new ≡ pass_board p.old }

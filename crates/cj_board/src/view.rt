@@ -1,4 +1,4 @@
-// What a seat at the board knows. It stands in proofs alone: no value of it is made.
+// What a seat at the board knows. Views exist in proofs alone: no value of these types is made.
 use cj_cluster::Event;
 use std::collections::LinkedList;
 
@@ -7,7 +7,7 @@ pub enum Role {
     Book(u64),
     /// The seat of a backend's cell: the backend and its position.
     Cell(u64, u64),
-    /// Any other.
+    /// The seat of a pass.
     Pass,
 }
 
@@ -18,11 +18,11 @@ pub struct SeatView {
     /// The fronts of the two seats of the last join.
     pub front_before: LinkedList<Event>,
     pub front_joined: LinkedList<Event>,
-    /// Backends and positions at which they stood.
+    /// Backends with positions that they had.
     pub position_notes: LinkedList<(u64, u64)>,
-    /// Backends and numbers of faults that they had.
+    /// Backends with numbers of faults that they had.
     pub fault_notes: LinkedList<(u64, u64)>,
-    /// Sessions and counts that their own passes had.
+    /// Sessions with counts that their own passes had.
     pub count_notes: LinkedList<(u64, u64)>,
     /// A backend for each of its faults that no event of the history has told of.
     pub fault_tokens: LinkedList<u64>,
@@ -34,6 +34,6 @@ pub struct SeatView {
     /// Of the book: the sessions that have an own pass, and the last session that was given one.
     pub given: LinkedList<u64>,
     pub last_given: u64,
-    /// Backends and their position words as they were looked at.
+    /// Backends with their position words as they were looked up.
     pub looks: LinkedList<(u64, u64)>,
 }

@@ -16,12 +16,12 @@ cached p = record { select = p.0; answer = p.1.answer; at = p.1.at }
 abbrev pub entries_of_map : LruCache Select Held → List Cached
 entries_of_map m = map cached m.entries
 
--- what a cache holds, where one of capacity 0 has no map
+-- what a cache holds, as entries; one of capacity 0 has no map
 abbrev pub entries_held : Option (LruCache Select Held) → List Cached
 entries_held None = []
 entries_held (Some m) = entries_of_map m
 
--- a map of this capacity, or none where it is 0
+-- a map of this capacity, or none if it is 0
 abbrev pub HasCapacity : ℕ → Option (LruCache Select Held) → Type 0
 HasCapacity n None = n ≡ 0
 HasCapacity n (Some m) = m.cap ≡ n
@@ -30,6 +30,6 @@ HasCapacity n (Some m) = m.cap ≡ n
 abbrev pub without_each : List Select → List Cached → List Cached
 without_each ss entries = fold (λ left s. without s left) entries ss
 
--- the same in a map's pairs
+-- the pairs of a map without those of these statements
 abbrev pub popped_each : List Select → List (Select × Held) → List (Select × Held)
 popped_each ss pairs = fold (λ left s. remove_entry (same_statement s) left) pairs ss

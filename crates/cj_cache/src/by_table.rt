@@ -1,4 +1,4 @@
-//! Statements by the tables that they need, so that a change finds those of its tables at their own cost.
+//! Statements by the tables that they need, so that a change finds those of its tables without a walk over all.
 
 ghost use Rattle.std.specs.Prelude.{◌≡◌, true, false, ⊤, All, OnOk};
 ghost use Rattle.cj_model.specs.Proving.SameStatements.{same_statement};
@@ -35,7 +35,7 @@ fn list_under(
     Ok(())
 }
 
-/// Lists a statement under each of its tables; want of memory may leave it under some of them.
+/// Lists a statement under each of its tables. Out of memory may leave it listed under some of them.
 pub fn list(by_table: &mut ByTable, alloc: Global, select: &Select) -> Result<(), NoMemory>
     ensures listed { OnOk result (All (λ table. lists by_table.new table select.now ≡ true) select.now.tables) }
     ensures others { StillLists (λ _. ⊤) by_table.old by_table.new }
@@ -58,7 +58,7 @@ fn unlist_under(by_table: &mut ByTable, table: &Name, select: &Select)
     }
 }
 
-/// Takes a statement off the lists of its tables.
+/// Removes a statement from the lists of its tables; others stay listed.
 pub fn unlist(by_table: &mut ByTable, select: &Select)
     ensures { StillLists (λ s. same_statement select.now s ≡ false) by_table.old by_table.new }
 {

@@ -1,4 +1,4 @@
-//! The cache.
+//! The result cache.
 
 ghost use Rattle.std.specs.Prelude.{◌≡◌, true, ℕ, [], ◌∷◌, is_some, map, take, option_copied, IfOk, OnOk, OnErr};
 ghost use Rattle.std.specs.List.{IsDistinct};
@@ -19,19 +19,19 @@ use std::collections::HashMap;
 use std::marker::Model;
 use std::num::NonZeroUsize;
 
-/// Statements of a cache.
+/// A list of statements.
 pub type Selects = ListOf<Select>;
 
-/// Answers of statements, which contracts see with the most recently used first.
+/// A cache of statements with their answers, which contracts see with the most recently used first.
 ///
-/// After `new`, only `keep` and `doomed` take memory.
+/// After `new`, only `keep` and `doomed` allocate.
 #[derive(Drop)]
 pub struct Cache {
     alloc: Global,
-    /// None at capacity 0.
+    /// `None` if the capacity is 0.
     held: Option<LruCache<Select, Held>>,
     by_table: ByTable,
-    /// The most entries.
+    /// The most entries that are kept.
     capacity: u32,
     hits: u64,
     misses: u64,
@@ -59,7 +59,7 @@ fn count_up(count: &mut u64)
     *count = count.saturating_add(1);
 }
 
-/// A map of this capacity, or none where it is 0.
+/// An empty map of this capacity; `None` if it is 0.
 fn make_map(alloc: Global, capacity: u32) -> Result<Option<LruCache<Select, Held>>, NoMemory>
     ensures { IfOk result (λ held. HasCapacity capacity held × (entries_held held ≡ [])) }
 {
@@ -115,7 +115,7 @@ fn drop_each(held: &mut Option<LruCache<Select, Held>>, by_table: &mut ByTable, 
 }
 
 impl Cache {
-    /// An empty cache of at most so many answers; one of capacity 0 keeps nothing.
+    /// Makes an empty cache of at most `capacity` answers; with 0 it keeps nothing. Fails if memory runs out.
     #[tactic(auto, using(crate::proofs::ByTable::none_listed))]
     pub fn new(alloc: Global, capacity: u32) -> Result<Cache, NoMemory>
         ensures { IfOk result (λ cache. cache ≡ empty_cache capacity) }
@@ -130,8 +130,8 @@ impl Cache {
         })
     }
 
-    /// Brings the answer of exactly this statement to the front and counts a hit, or counts a miss
-    /// where none is kept; whether one is. With `kept` behind it, this is a look-up.
+    /// Looks up exactly this statement: brings its answer to the front and counts a hit, or counts a miss if none is
+    /// kept. Answers whether one is; `kept` then gives the answer.
     pub fn touch(&mut self, select: &Select) -> bool
         ensures hit { result ≡ has_answer select.now self.old }
         ensures looked { self.new ≡ after_look select.now self.old }
@@ -145,7 +145,7 @@ impl Cache {
         hit
     }
 
-    /// The kept answer of exactly this statement.
+    /// The kept answer of exactly this statement; `None` if none is kept. Counts nothing.
     pub fn kept(&self, select: &Select) -> Option<&Answer>
         ensures { option_copied result ≡ caching.answer_kept select.now self.now }
     {
@@ -155,8 +155,10 @@ impl Cache {
         }
     }
 
-    /// Keeps an answer in front, in place of the one of the same statement; where there is none,
-    /// the least recently used goes from a full cache. Want of memory leaves the cache as it was.
+    /// Keeps the answer of a statement, at position `at` of the log, in front.
+    ///
+    /// The answer replaces one of the same statement. If there is none, a full cache drops the least recently used.
+    /// Out of memory leaves the cache as it was.
     pub fn keep(&mut self, select: Select, answer: Answer, at: u64) -> Result<(), NoMemory>
         ensures ok { OnOk result (self.new ≡ after_keep (record { select = select; answer = answer; at = at }) self.old) }
         ensures err { OnErr result (self.new ≡ self.old) }
@@ -171,7 +173,7 @@ impl Cache {
         )
     }
 
-    /// Copies of exactly the kept statements that need one of the tables.
+    /// Copies exactly the kept statements that need one of the tables; fails if memory runs out.
     #[tactic(auto, using(crate::proofs::Doomed::none_same, crate::proofs::Doomed::none_differ))]
     pub fn doomed(&self, set: &TableSet) -> Result<Selects, NoMemory>
         ensures { IfOk result (λ found. ListsDoomed set.now self.now found) }
@@ -182,8 +184,8 @@ impl Cache {
         }
     }
 
-    /// Drops exactly the entries that need one of the tables. `doomed` is what `doomed` answers
-    /// for them now.
+    /// Drops exactly the entries that need one of the tables. `doomed` must be what the call `doomed` answers for the
+    /// same tables and the cache as it is.
     pub fn drop_tables(&mut self, set: &TableSet, doomed: &Selects)
         requires { ListsDoomed set.now self.old doomed.now }
         ensures { self.new ≡ without_tables set.now self.old }
@@ -191,7 +193,7 @@ impl Cache {
         drop_each(&mut self.held, &mut self.by_table, doomed.as_slice());
     }
 
-    /// Whether nothing is ever kept, so that no answer need be copied for it.
+    /// Whether the cache never keeps anything, so that no answer need be copied for it.
     pub fn keeps_none(&self) -> bool
         ensures { result ≡ true → (e : Cached) → after_keep e self.now ≡ self.now }
     {
@@ -201,7 +203,7 @@ impl Cache {
         }
     }
 
-    /// Hits and misses.
+    /// The counts of hits and of misses, each up to 2^64 - 1.
     pub fn counts(&self) -> (u64, u64)
         ensures { result ≡ (self.now.hits, self.now.misses) }
     {

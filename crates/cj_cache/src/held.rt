@@ -1,4 +1,4 @@
-//! What is held of statements, the most recently used first.
+//! The map of a cache: statements with their answers, the most recently used first.
 
 ghost use Rattle.std.specs.Prelude.{◌≡◌, [], ◌∷◌, filter, is_some, map, option_copied, option_map, take, IfOk, OnOk, OnErr};
 ghost use Rattle.std.specs.List.{IsDistinct};
@@ -16,14 +16,14 @@ use indexmap::IndexSet;
 use lru::LruCache;
 use std::alloc::Global;
 
-/// What is held of a statement.
+/// What the map has for a statement: its answer, and the log position of the answer.
 #[derive(Drop)]
 pub struct Held {
     pub answer: Answer,
     pub at: u64,
 }
 
-/// The answer of a statement.
+/// The answer of a statement; `None` if the map has none.
 pub fn answer_of<'a>(held: &'a LruCache<Select, Held>, select: &Select) -> Option<&'a Answer>
     ensures { option_copied result ≡ option_map (λ e. e.answer) (cached_entry select.now (entries_of_map held.now)) }
 {
@@ -33,7 +33,7 @@ pub fn answer_of<'a>(held: &'a LruCache<Select, Held>, select: &Select) -> Optio
     }
 }
 
-/// Brings the entry of a statement to the front; whether there is one.
+/// Brings the entry of a statement to the front, and answers whether there is one.
 pub fn bring_to_front(held: &mut LruCache<Select, Held>, select: &Select) -> bool
     ensures found { result ≡ is_some (cached_entry select.now (entries_of_map held.old)) }
     ensures entries { entries_of_map held.new ≡ brought_to_front select.now (entries_of_map held.old) }
@@ -49,7 +49,7 @@ fn is_kept(held: &LruCache<Select, Held>, select: &Select) -> bool
     held.contains(select)
 }
 
-/// Takes a statement off the lists of its tables, unless it is kept.
+/// Removes a statement from the lists of its tables, unless it is kept.
 #[tactic(auto, using(crate::proofs::ByTable::others_listed))]
 fn unlist_unkept(held: &LruCache<Select, Held>, by_table: &mut ByTable, select: &Select)
     requires { AreListed by_table.old (entries_of_map held.now) }
@@ -60,8 +60,8 @@ fn unlist_unkept(held: &LruCache<Select, Held>, by_table: &mut ByTable, select: 
     }
 }
 
-/// Puts an entry in front, in place of the one of its statement or of the last of a full cache, and
-/// gives the statement of the one that went. For want of memory it gives the entry's own back.
+/// Puts an entry in front, in place of the one of its statement or of the last of a full cache.
+/// Answers the statement of the entry that went. Out of memory leaves the map, and gives the new statement back.
 fn push_front(held: &mut LruCache<Select, Held>, entry: Cached) -> Result<Option<Select>, Select>
     ensures ok { OnOk result (entries_of_map held.new ≡ take held.old.cap (entry ∷ without entry.select (entries_of_map held.old))) }
     ensures err { OnErr result (held.new ≡ held.old) }
@@ -76,6 +76,7 @@ fn push_front(held: &mut LruCache<Select, Held>, entry: Cached) -> Result<Option
 }
 
 /// Puts an entry in front, in place of the one of its statement or of the last of a full cache.
+/// Lists its statement under its tables. Out of memory leaves the map as it was.
 #[tactic(auto, using(crate::proofs::ByTable::still_listed))]
 pub fn put_front(
     alloc: Global,
@@ -138,7 +139,7 @@ fn copy_listed(
     Ok(())
 }
 
-/// Copies of the statements that need one of the tables, at the cost of these alone.
+/// Copies the kept statements that need one of the tables, without a walk over the others.
 pub fn copy_doomed(
     alloc: Global,
     held: &LruCache<Select, Held>,
@@ -155,7 +156,7 @@ pub fn copy_doomed(
     Ok(ListOf::from_vec(found.into_iter().collect(alloc)?))
 }
 
-/// Drops the entries of statements.
+/// Drops the entries of these statements.
 #[tactic(auto, using(crate::proofs::ByTable::popped_listed, crate::proofs::Maps::keys_shown))]
 pub fn drop_each(held: &mut LruCache<Select, Held>, by_table: &mut ByTable, doomed: &[Select])
     requires { AreListed by_table.old (entries_of_map held.old) }

@@ -16,21 +16,21 @@ ghost use Rattle.cj_cluster.specs.History.Histories.{database_after};
 ghost use Rattle.cj_cluster.specs.History.Transactions.{AreFit};
 ghost use Rattle.cj_cluster.specs.History.Freshness.{IsAnswerAt, IsFreshAnswer, IsFreshCache, NoneTouches, touches_behind, touches_query, without_touched};
 
-/// Where none of the entries from one position to another touches a table that a query needs, the query is answered the
-/// same at both, refusals too.
+/// If no entry from one position to another touches a table that a query needs, the query has the same answer at
+/// both, refusals too.
 pub fn answers_stay()
     ensures { (entries : List Entry) (from to : ℕ) (s : Select) → AreFit entries → from ≤ to → to ≤ length entries → NoneTouches entries from to s → ask (database_after entries from) 0 s ≡ ask (database_after entries to) 0 s }
 {}
 
-/// A fresh answer is the one at the log's end, and so is what a fresh cache gives.
+/// A fresh answer is the one at the log's end, and so is each answer that a fresh cache gives.
 pub fn fresh_answers_are_right()
     ensures answer { (entries : List Entry) (kept : Cached) → AreFit entries → IsFreshAnswer true entries kept → IsAnswerAt entries (length entries) kept.select (Rows kept.answer) }
     ensures cache { (entries : List Entry) (c : CacheState) (s : Select) (a : Answer) → AreFit entries → IsFreshCache true entries c → answer_kept s c ≡ Some a → IsAnswerAt entries (length entries) s (Rows a) }
 {}
 
-/// What keeps a cache fresh: that it begins empty, that an answer is looked up, that a fresh one is kept, as one from the
-/// log's end is, and that at each further entry what needs a table which the entry touches is dropped. A set of exactly
-/// those tables serves for that.
+/// An empty cache is fresh. It stays fresh when an answer is looked up, and when a fresh one is kept.
+/// An answer from the log's end is fresh. Over a further entry a cache stays fresh if what needs a table that the
+/// entry touches is dropped; a set of exactly those tables serves for that.
 pub fn caches_stay_fresh()
     ensures empty { (tells : Bool) (entries : List Entry) (capacity : ℕ) → IsFreshCache tells entries (empty_cache capacity) }
     ensures now { (tells : Bool) (entries : List Entry) (kept : Cached) → kept.at ≡ length entries → IsAnswer kept.answer → (tells ≡ true → IsAnswerAt entries kept.at kept.select (Rows kept.answer)) → IsFreshAnswer tells entries kept }

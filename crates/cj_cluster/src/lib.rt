@@ -6,7 +6,7 @@
 //! From there its replies in a list of moves are a chain of turns (`IsChained`).
 //! A new move concerns `moves.rt`, `specs/Moves/Moves` and `specs/Script/Lines`; docs/ARCHITECTURE.md says more.
 //! Proofs begin in `proofs/Soundness` (every move keeps the invariant) and its parts in `proofs/Effects`.
-//! `proofs/Answered` shows a turn for each reply, `proofs/Between` what other moves keep, `proofs/Chains` the law.
+//! `proofs/Answered` shows a turn for each reply, `proofs/Between` what other moves keep, `proofs/Chains` the chains.
 #![tactic(auto)]
 
 mod boxed;

@@ -1,4 +1,4 @@
--- The fields of the binary formats: numbers, byte strings behind their length, and values.
+-- The fields of the binary formats: numbers, byte strings after their length, and values.
 use Rattle.std.specs.Prelude.{◌≡◌, ℕ, ◌^◌, ◌<◌, ◌&&◌, zero, suc, Bool, ℤ, pos, List, [], ◌∷◌, ◌++◌, length, Ok, Err, nat_le}
 use Rattle.std.specs.Int.{Width, w16, w32, w64, byte_len, to_be_bytes, cast_unsigned, cast_signed}
 use Rattle.cj_model.specs.declared.value.Value.{Value}

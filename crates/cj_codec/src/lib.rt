@@ -3,7 +3,7 @@
 //!
 //! A format (`specs/Formats`) says the bytes of each value, which values a field may hold, and how it is read.
 //! Contracts promise that what is written reads back, and that what is read was written (`IsFormat`, `laws.rt`).
-//! They also say exactly when bytes end inside a field. A field that is refused leaves the reader where it was.
+//! They also say exactly when bytes end inside a field. A refused single field leaves the reader where it was.
 //! A new kind of field concerns `specs/Fields`, `read.rt`, `reader.rt`, `write.rt` and `laws.rt`.
 //! Formats of several fields implement `Field` in the crates that own them.
 //! Proofs begin in `proofs/Formats` (laws of every format); `proofs/Fields` applies them to each field.

@@ -10,7 +10,7 @@ use cj_model::{Name, Value};
 use std::alloc::Global;
 use std::marker::Model;
 
-/// A reader of bytes, field by field, with its offset. A field that is refused leaves the reader where it was.
+/// A reader of bytes, field by field, with its offset. A refused single field leaves the reader where it was.
 #[derive(Drop)]
 pub struct Reader<'a> {
     rest: &'a [u8],
@@ -176,8 +176,8 @@ impl<'a> Reader<'a> {
 
     /// Takes a value, after its tag, and copies its text.
     ///
-    /// `BadField` comes for a tag that is neither 01 nor 02, for a text that is not UTF-8 without byte 0, and for one
-    /// of more than `TEXT_LIMIT` bytes.
+    /// `BadField` comes for a tag that is neither 01 nor 02. It also comes for a text that isn't UTF-8 without byte 0,
+    /// or has more than `TEXT_LIMIT` bytes.
     pub fn value(&mut self, alloc: Global) -> Result<Value, CodecError>
         ensures { ReadsField value (λ x. x) self.old self.new result }
     {

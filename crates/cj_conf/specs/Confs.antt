@@ -36,7 +36,7 @@ names_of backends = map (λ (backend : Backend). backend.name) backends
 abbrev pub kinds_of : List Backend → List BackendKind
 kinds_of backends = map (λ (backend : Backend). backend.kind) backends
 
--- the weight of backend b; 1 where there is no such backend
+-- the weight of backend b; 1 if there is no such backend
 abbrev pub weight_at : List Backend → ℕ → ℕ
 weight_at backends b = option_map_or (λ (backend : Backend). backend.weight) (slice_get backends b) 1
 
@@ -54,7 +54,7 @@ accounts_from users backends = unless Auth (refusal_of_accounts users backends) 
 
 -- ---- the whole
 
--- first the placement, then the accounts
+-- the configuration of settings, or its refusal: first the placement's, then the accounts'
 abbrev pub conf_from : Settings → Result Conf ConfError
 conf_from s =
     and_then (placement_from s.level s.backends s.tables) (λ placement.
@@ -70,7 +70,7 @@ conf_from s =
       connections = s.connections;
     })))
 
--- the document of the bytes: they are UTF-8, and the text is one
+-- the document that the bytes are, if they are UTF-8 and the text is one
 abbrev pub document_of : List ℕ → Option Members
 document_of bytes = if is_utf8 bytes then parse_document bytes else None
 
@@ -84,7 +84,7 @@ conf_of bytes = conf_in (document_of bytes)
 
 -- ---- what holds of each
 
--- a kind for each backend, accounts over the same backends, and weights and a cache within their limits
+-- a usable configuration: a kind and logins for each backend, and weights and a cache within their limits
 pub record IsUsable (c : Conf) : Type 0 where
   pub kinds : length c.kinds ≡ length c.placement.names
   pub backends : c.accounts.backends ≡ length c.placement.names

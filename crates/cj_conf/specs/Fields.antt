@@ -1,4 +1,4 @@
--- What stands at the keys of a table, or why it is refused.
+-- The values at the keys of a table, or why they are refused.
 use Rattle.std.specs.Prelude.{ℕ, ℤ, pos, negsuc, Bool, ◌&&◌, nat_le, if◌then◌else◌, List, length, codes}
 use Rattle.std.specs.declared.option.Option.{Option}
 use Rattle.std.specs.declared.option.Option.TheVariants.{None, Some}
@@ -37,12 +37,12 @@ unless refuse (Some e) read = Err (refuse e)
 abbrev pub at : Key → Members → Option Data
 at k ms = get_member (key_name k) ms
 
--- a key that must be there
+-- the value at a key that must be there, or its refusal
 abbrev pub required : {A : Type 0} → Key → (Data → Result A ConfError) → Option Data → Result A ConfError
 required k read None = Err (Missing k)
 required k read (Some d) = read d
 
--- a key that may be absent, and what holds then
+-- the value at a key that may be absent, and what holds then
 abbrev pub optional : {A : Type 0} → A → (Data → Result A ConfError) → Option Data → Result A ConfError
 optional absent read None = Ok absent
 optional absent read (Some d) = read d
@@ -61,12 +61,12 @@ number_at k least most absent ms = optional absent (λ d. number_within k least 
 
 -- ---- texts
 
--- what a text is read as; one that isn't read is out of its range
+-- what a text is read as, or the refusal `Range` if it can't be read
 abbrev pub in_range : {A : Type 0} → Key → Option A → Result A ConfError
 in_range k None = Err (Range k)
 in_range k (Some a) = Ok a
 
--- the value has to be a text, and is what the text is read as
+-- what the text at a key is read as, or its refusal if it is no text or can't be read
 abbrev pub text_as : {A : Type 0} → Key → (List ℕ → Option A) → Option (List ℕ) → Result A ConfError
 text_as k read None = Err (WrongType k)
 text_as k read (Some s) = in_range k (read s)
@@ -130,7 +130,7 @@ digest_at ms = required key.Sha256 (text_in key.Sha256) (at key.Sha256 ms)
 
 -- ---- other keys
 
--- the text is one of the keys
+-- whether the text is one of the keys
 abbrev pub is_known : List Key → List ℕ → Bool
 is_known known k = list_any (λ (key : Key). bytes_eq k (key_name key)) known
 
@@ -139,6 +139,6 @@ abbrev pub first_unknown : List Key → Members → Option (List ℕ)
 first_unknown known no_members = None
 first_unknown known (member k d ms) = if is_known known k then first_unknown known ms else Some k
 
--- what was read, unless another key than the known ones stands in the table
+-- what was read, unless the table has another key than the known ones
 abbrev pub with_only : {A : Type 0} → List Key → Members → A → Result A ConfError
 with_only known ms read = unless Unknown (first_unknown known ms) read

@@ -1,4 +1,4 @@
--- How a refusal of a configuration is told, and what a call gives that may be refused.
+-- The number and the key of a refusal of a configuration, and what a call gives that may be refused.
 use Rattle.std.specs.Prelude.{◌≡◌, ◌⊎◌, ℕ, List, [], ⊤}
 use Rattle.std.specs.declared.result.Result.{Result}
 use Rattle.std.specs.declared.result.Result.TheVariants.{Ok, Err}
@@ -20,7 +20,7 @@ error_number (Place e) = 6
 error_number (Auth e) = 7
 error_number NoMemory = 8
 
--- the key that is told with it: none where the whole text is at fault, `tables` for a placement, `users` for accounts
+-- the key of a refusal: none if the whole text is at fault, `tables` for a placement, `users` for accounts
 abbrev pub config_key_text : ConfError → List ℕ
 config_key_text NotToml = []
 config_key_text (Missing key) = key_name key
@@ -31,13 +31,13 @@ config_key_text (Place e) = key_name Tables
 config_key_text (Auth e) = key_name Users
 config_key_text NoMemory = []
 
--- want of memory is told as such, and never as a refusal of a placement or of accounts
+-- running out of memory is told as such, and never as a refusal of a placement or of accounts
 abbrev pub TellsMemoryPlainly : ConfError → Type 0
 TellsMemoryPlainly (Place place.NoMemory) = ⊥
 TellsMemoryPlainly (Auth auth.NoMemory) = ⊥
 TellsMemoryPlainly e = ⊤
 
--- the call gives what is told, or meets want of memory
+-- the call gives this result, or runs out of memory
 abbrev pub Gives : {A : Type 0} → Result A ConfError → Result A ConfError → Type 0
 Gives told (Ok a) = told ≡ Ok a
 Gives told (Err e) = (e ≡ NoMemory) ⊎ (told ≡ Err e)

@@ -27,7 +27,7 @@ abbrev pub each : {A : Type 0} → (Data → Result A ConfError) → Items → R
 each read no_items = Ok []
 each read (item d ds) = and_then (read d) (λ a. and_then (each read ds) (λ more. Ok (a ∷ more)))
 
--- items of one kind: that is looked at in all of them, before any is read
+-- items of one kind, or the first refusal; the kind of all is checked before any is read
 abbrev pub each_of : {A : Type 0} → Key → (Data → Bool) → (Data → Result A ConfError) → Option Items → Result (List A) ConfError
 each_of k is_kind read None = Err (WrongType k)
 each_of k is_kind read (Some ds) = if all_items is_kind ds then each read ds else Err (WrongType k)
@@ -38,16 +38,16 @@ is_text d = is_some (as_str d)
 abbrev pub is_table : Data → Bool
 is_table d = is_some (as_table d)
 
--- a list of texts
+-- a list of texts as they are read, or the first refusal
 abbrev pub texts_of : {A : Type 0} → Key → (Data → Result A ConfError) → Data → Result (List A) ConfError
 texts_of k read d = each_of k is_text read (as_array d)
 
--- a table of a list
+-- a table of a list as it is read, or its refusal
 abbrev pub config_row : {A : Type 0} → Key → (Members → Result A ConfError) → Option Members → Result A ConfError
 config_row k read None = Err (WrongType k)
 config_row k read (Some ms) = read ms
 
--- a list of tables
+-- a list of tables as they are read, or the first refusal
 abbrev pub rows_of : {A : Type 0} → Key → (Members → Result A ConfError) → Data → Result (List A) ConfError
 rows_of k read d = each_of k is_table (λ row. config_row k read (as_table row)) (as_array d)
 

@@ -1,4 +1,4 @@
--- What a document sets: each key in turn, then that there are no others.
+-- The settings of a document: each key in turn, then that there are no others.
 use Rattle.std.specs.Prelude.{List, [], ◌∷◌}
 use Rattle.std.specs.declared.result.Result.{Result}
 use Rattle.toml.specs.Data.{Members}
@@ -9,11 +9,11 @@ use Rattle.cj_conf.specs.declared.settings.Settings.{Settings}
 use Rattle.cj_conf.specs.Fields.{and_then, level_at, number_at, policy_at, with_only}
 use Rattle.cj_conf.specs.Rows.{backends_at, tables_at, users_at}
 
--- the keys that may stand in a document
+-- the keys that a document may have
 abbrev pub document_keys : List Key
 document_keys = key.Level ∷ key.Policy ∷ key.Cache ∷ key.Seed ∷ key.Connections ∷ key.Backends ∷ key.Tables ∷ key.Users ∷ []
 
--- level, policy, cache, seed, connections, backends, tables and users, in this order
+-- the settings of a document, or the first refusal in this order of keys, and last that of an unknown key
 abbrev pub settings_of : Members → Result Settings ConfError
 settings_of ms =
     and_then (level_at ms) (λ level.

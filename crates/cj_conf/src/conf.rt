@@ -32,7 +32,7 @@ pub type Kinds = ListOf<BackendKind>;
 /// The weight of each backend, and 1 past the last.
 pub type Weights = [u16; BACKEND_LIMIT as usize];
 
-/// What a cluster is to be: backends go by their number, from 0.
+/// The configuration of a cluster. Backends go by their number, from 0.
 #[derive(Drop)]
 pub struct Conf {
     pub placement: Placement,
@@ -40,10 +40,10 @@ pub struct Conf {
     pub accounts: Accounts,
     pub policy: Policy,
     pub weights: Weights,
-    /// How many answers are kept.
+    /// The most answers that the result cache keeps.
     pub cache: u32,
     pub seed: u64,
-    /// How many connections are served; without end where it is 0.
+    /// How many connections are served; 0 means without end.
     pub connections: u64,
 }
 
@@ -176,8 +176,10 @@ fn document_of(alloc: Global, bytes: &[u8]) -> Result<Table, ConfError>
     }
 }
 
-/// The configuration that the bytes of a TOML document give. Otherwise the first thing that is wrong
-/// with them, or want of memory.
+/// Reads the configuration that the bytes of a TOML document give.
+///
+/// The error is the first thing that is wrong with the bytes, or `NoMemory`. Running out of memory is never told as
+/// the refusal of a placement or of accounts.
 pub fn read_conf(alloc: Global, bytes: &[u8]) -> Result<Conf, ConfError>
     ensures conf { Gives (conf_of bytes.now) result }
     ensures usable { IfOk result IsUsable }

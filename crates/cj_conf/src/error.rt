@@ -12,7 +12,7 @@ use std::fmt;
 use std::marker::Model;
 use thiserror::Error;
 
-/// A key that a configuration gives and that isn't known, which contracts see as its bytes.
+/// A key that a configuration has and that isn't known. Contracts see its bytes.
 #[derive(Debug, Drop)]
 pub struct UnknownKey {
     text: String,
@@ -48,7 +48,7 @@ impl fmt::Display for UnknownKey {
     }
 }
 
-/// The name that a refusal is about, for its message; no bytes where it is about none.
+/// The name that a refusal is about, for its message; no bytes if it is about none.
 #[derive(Clone, Copy)]
 struct Subject<'a>(&'a [u8]);
 
@@ -119,7 +119,7 @@ impl From<NoMemory> for ConfError {
 }
 
 impl ConfError {
-    /// The number by which the refusal is told.
+    /// The number of the refusal, from 1 to 8.
     pub fn number(&self) -> u8
         ensures { result ≡ error_number self.now }
     {
@@ -135,7 +135,7 @@ impl ConfError {
         }
     }
 
-    /// The key at which the configuration is refused; no bytes where there is none.
+    /// The key at which the configuration is refused; no bytes if there is none.
     pub fn key(&self) -> &[u8]
         ensures { result.now ≡ config_key_text self.now }
     {

@@ -1,4 +1,4 @@
-//! What stands at the keys of a table.
+//! The values at the keys of a table.
 
 ghost use Rattle.std.specs.Prelude.{◌≡◌, ◌⊎◌, ◌≤◌, length, option_copied, option_map, IfErr, IfOk, IsOk, None, Some};
 ghost use Rattle.toml.specs.Data.{as_integer, as_str};
@@ -17,7 +17,7 @@ use cj_model::{Level, Name, NoMemory, Policy, Text, USER_LIMIT};
 use std::alloc::Global;
 use toml::{Table, Value};
 
-/// The value at a key; none exactly where the key is absent.
+/// The value at a key of the table; `None` exactly if the key is absent.
 pub fn find<'a>(table: &'a Table, key: Key) -> Option<&'a Value>
     ensures { option_map (λ v. view v.now) result ≡ at key (table_view table.now) }
 {
@@ -37,7 +37,8 @@ fn number_of(value: &Value, key: Key, least: u64, most: u64) -> Result<u64, Conf
     }
 }
 
-/// A number within bounds, at a key that may be absent.
+/// The integer at a key, from `least` to `most`; `absent` if the key is absent.
+/// `WrongType` if it is no integer, and `Range` if it is out of bounds.
 pub fn number_at(
     table: &Table,
     key: Key,
@@ -57,7 +58,7 @@ pub fn number_at(
     }
 }
 
-/// How often a table is held.
+/// The RAIDb level at the key `level`, which must be there.
 pub fn level_at(table: &Table) -> Result<Level, ConfError>
     ensures { result ≡ fields.level_at (table_view table.now) }
 {
@@ -73,7 +74,7 @@ pub fn level_at(table: &Table) -> Result<Level, ConfError>
     }
 }
 
-/// How reads are spread; in turn where that isn't said.
+/// The balancing policy at the key `policy`; round-robin if the key is absent.
 pub fn policy_at(table: &Table) -> Result<Policy, ConfError>
     ensures { result ≡ fields.policy_at (table_view table.now) }
 {
@@ -89,7 +90,7 @@ pub fn policy_at(table: &Table) -> Result<Policy, ConfError>
     }
 }
 
-/// What holds the tables of a backend.
+/// The kind of a backend at the key `kind`, which must be there: what holds its tables.
 pub fn kind_at(table: &Table) -> Result<BackendKind, ConfError>
     ensures { result ≡ fields.kind_at (table_view table.now) }
 {
@@ -104,7 +105,7 @@ pub fn kind_at(table: &Table) -> Result<BackendKind, ConfError>
     }
 }
 
-/// The value as a name of a backend or a table.
+/// Reads a value as the name of a backend or a table. A refusal names `key`.
 pub fn name_in(value: &Value, key: Key) -> Result<Name, ConfError>
     ensures { result ≡ fields.name_in key (view value.now) }
 {
@@ -117,7 +118,7 @@ pub fn name_in(value: &Value, key: Key) -> Result<Name, ConfError>
     }
 }
 
-/// The name of a backend or a table.
+/// The name of a backend or a table at the key `name`, which must be there.
 pub fn name_at(table: &Table) -> Result<Name, ConfError>
     ensures { result ≡ fields.name_field (table_view table.now) }
 {
@@ -139,7 +140,7 @@ fn own_text(alloc: Global, text: &[u8], key: Key) -> Result<Text, ConfError>
     }
 }
 
-/// The value as a text.
+/// Reads a value as a text without byte 0, and copies it. A refusal names `key`.
 pub fn text_in(alloc: Global, value: &Value, key: Key) -> Result<Text, ConfError>
     ensures { Gives (fields.text_in key (view value.now)) result }
 {
@@ -162,7 +163,7 @@ fn user_in(alloc: Global, value: &Value) -> Result<Text, ConfError>
     }
 }
 
-/// The name of a user, which has at most `USER_LIMIT` bytes.
+/// The name of a user at the key `name`, which must be there: 1 to `USER_LIMIT` bytes.
 pub fn user_at(alloc: Global, table: &Table) -> Result<Text, ConfError>
     ensures user { Gives (fields.user_at (table_view table.now)) result }
     ensures short { IfOk result (λ user. length user ≤ USER_LIMIT) }
@@ -173,7 +174,7 @@ pub fn user_at(alloc: Global, table: &Table) -> Result<Text, ConfError>
     }
 }
 
-/// The SHA-256 of a user's password, as it is written.
+/// The SHA-256 of a user's password at the key `sha256`, as it is written; the key must be there.
 pub fn digest_at(alloc: Global, table: &Table) -> Result<Text, ConfError>
     ensures { Gives (fields.digest_at (table_view table.now)) result }
 {
@@ -201,7 +202,8 @@ fn stranger<'a>(table: &'a Table, known: &[Key]) -> Option<&'a str>
     None
 }
 
-/// Passes a table in which no other keys stand, and else says the first in byte order.
+/// Passes a table that has no other than the known keys. The error is the first other key in byte order, or
+/// `NoMemory`.
 pub fn refuse_others(alloc: Global, table: &Table, known: &[Key]) -> Result<(), ConfError>
     ensures passed { IsOk result → first_unknown known.now (table_view table.now) ≡ None }
     ensures refused { IfErr result (λ e. (e ≡ error.NoMemory) ⊎ (option_map error.Unknown (first_unknown known.now (table_view table.now)) ≡ Some e)) }

@@ -45,7 +45,7 @@ impl Key {
         }
     }
 
-    /// Which values the key takes, in plain words.
+    /// Which values the key may have, in plain words for messages.
     pub fn expected(self) -> &'static str {
         match self {
             Key::Level => "\"raidb0\", \"raidb1\" or \"raidb2\"",

@@ -168,7 +168,7 @@ fn each_account(alloc: Global, array: &Array) -> Result<AccountRows, ConfError>
     Ok(accounts)
 }
 
-/// The backends, which must be given.
+/// The list of backends at the key `backends`, which must be there.
 pub fn backends_at(alloc: Global, table: &Table) -> Result<Backends, ConfError>
     ensures backends { Gives (rows.backends_at (table_view table.now)) result }
     ensures weights { IfOk result (All IsWeighted) }
@@ -182,7 +182,7 @@ pub fn backends_at(alloc: Global, table: &Table) -> Result<Backends, ConfError>
     }
 }
 
-/// The tables whose hosts are given; none where the key is absent.
+/// The list of tables with their hosts at the key `tables`; empty if the key is absent.
 pub fn tables_at(alloc: Global, table: &Table) -> Result<PlaceRows, ConfError>
     ensures { Gives (rows.tables_at (table_view table.now)) result }
 {
@@ -195,7 +195,7 @@ pub fn tables_at(alloc: Global, table: &Table) -> Result<PlaceRows, ConfError>
     }
 }
 
-/// The users, which must be given. Each has a name of at most `USER_LIMIT` bytes.
+/// The list of accounts at the key `users`, which must be there. Each user has at most `USER_LIMIT` bytes.
 pub fn users_at(alloc: Global, table: &Table) -> Result<AccountRows, ConfError>
     ensures accounts { Gives (rows.users_at (table_view table.now)) result }
     ensures short { IfOk result HasShortUsers }

@@ -1,4 +1,4 @@
-//! What a document sets.
+//! The settings of a document.
 
 ghost use Rattle.std.specs.Prelude.{◌≡◌, ◌⊎◌, ◌≤◌, option_map, All, IfErr, IfOk, IsOk, None, Some};
 ghost use Rattle.toml.specs.View.{table_view};
@@ -18,16 +18,16 @@ use cj_model::{AccountRows, Level, PlaceRows, Policy};
 use std::alloc::Global;
 use toml::Table;
 
-/// The answers that a cache keeps at most.
+/// The greatest capacity of a result cache, in answers.
 pub const CACHE_MOST: u64 = 65_536;
 
-/// The answers that a cache keeps where that isn't said.
+/// The capacity of the result cache, in answers, if the document doesn't give it.
 pub const CACHE_ABSENT: u64 = 64;
 
 /// The greatest seed, and the greatest count of connections.
 pub const NUMBER_MOST: u64 = 9_223_372_036_854_775_807;
 
-/// What a document sets, before tables are placed and users are admitted.
+/// The settings of a document, before the placement and the accounts are checked.
 #[derive(Drop)]
 pub struct Settings {
     pub level: Level,
@@ -57,7 +57,7 @@ fn refuse_strangers(alloc: Global, table: &Table) -> Result<(), ConfError>
     refuse_others(alloc, table, &known)
 }
 
-/// Reads a document, key by key.
+/// Reads the settings of a document, key by key. The error is the first thing that is wrong, or `NoMemory`.
 pub fn settings_of(alloc: Global, table: &Table) -> Result<Settings, ConfError>
     ensures settings { Gives (settings_of (table_view table.now)) result }
     ensures cache { IfOk result (λ s. s.cache ≤ CACHE_MOST) }

@@ -16,7 +16,8 @@ is_whole_end end.WriteFault = false
 is_whole_end end.Spent = true
 is_whole_end end.NoMemory = false
 
--- Of the reading of the bytes taken, these are the messages before the first Quit; where the session was cut short, the first of them.
+-- Of the reading of the bytes taken, these are the messages before the first Quit.
+-- If the session was cut short, they are the first of these.
 pub record AreAnsweredMessages (reading : List Message) (ending : SessionEnd) (messages : List Message) : Type 0 where
   pub others : List Message
   pub front : answered_messages reading ≡ messages ++ others

@@ -9,7 +9,7 @@ use Rattle.cj_cluster.specs.History.Turns.{SessionView, Call, Chain, TurnCase, e
 use Rattle.cj_cluster.specs.Moves.Runs.{last_seen}
 use Rattle.cj_desk.specs.DeskStates.{DeskState}
 
--- From a to z the session's calls are a chain of turns, and it has seen then what the last of them saw.
+-- From a to z the session's calls are a chain of turns, and the session has seen at z what the last turn saw.
 pub record IsDeskChain (tells : Bool) (a z : DeskState) : Type 0 where
   pub placement : z.placement ≡ a.placement
   pub session : z.session ≡ a.session
@@ -22,7 +22,7 @@ pub record IsDeskChain (tells : Bool) (a z : DeskState) : Type 0 where
 abbrev pub entries_of : ℕ → List Event → List Entry
 entries_of s h = filter (λ (e : Entry). e.session == s) (log h)
 
--- the entry that a turn scheduled, where it did
+-- the entry that a turn scheduled, if it did
 abbrev pub scheduled_by : {tells : Bool} {p : Placement} {s : ℕ} {a : SessionView} {c : Call} {z : SessionView} → TurnCase tells p s a c z → List Entry
 scheduled_by {s = s} {c = c} (scheduled x) = entry_of_call s c x.act ∷ []
 scheduled_by (no_backend x) = []
@@ -39,7 +39,8 @@ scheduled_in tells p s a (c ∷ cs) (z ∷ zs) chain = scheduled_by chain.0.case
 scheduled_in tells p s a [] (z ∷ zs) chain = []
 scheduled_in tells p s a (c ∷ cs) [] chain = []
 
--- Behind the history that the session had seen its entries are those that its calls scheduled, in order and each once. The position that its reads need has not fallen.
+-- After the history that the session had seen, its entries are those that its calls scheduled, in order, each once.
+-- The position that its reads need has not fallen.
 pub record StandsOver (tells : Bool) (a z : DeskState) (chain : IsDeskChain tells a z) : Type 0 where
   pub longer : IsPrefix a.seen.front z.seen.front
   pub entries : entries_of a.session z.seen.front ≡ entries_of a.session a.seen.front ++ scheduled_in tells a.placement a.session a.seen chain.calls chain.seen chain.chain

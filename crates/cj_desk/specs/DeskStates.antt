@@ -1,4 +1,4 @@
--- The state of a desk, and where a call leads it. A desk is what one session is served at.
+-- The state of a desk, which serves one session, and where a call leads it.
 use Rattle.std.specs.Prelude.{◌≡◌, ℕ, zero, suc, ◌+◌, ◌<◌, ◌≤◌, Bool, List, length, slice_get}
 use Rattle.std.specs.declared.option.Option.TheVariants.{Some}
 use Rattle.cj_model.specs.declared.request.Request.{Request}
@@ -26,13 +26,13 @@ pub record DeskState : Type 0 where
 abbrev pub desk_tx : DeskState → ℕ
 desk_tx d = tx_of (log d.seen.front) d.session
 
--- what a desk is asked, with its answer: a write or a read; a Query that never reached it; the hits and misses of the result cache
+-- a call of a desk with its answer: a write or read; a Query that never reached it; the counts of the result cache
 pub data DeskCall : Type 0 where
   turn_taken : Call → DeskCall
   query_skipped : DeskCall
   cache_counted : ℕ → ℕ → DeskCall
 
--- a write or a read has the session's next number, and is a turn from what the session had seen to what it sees then
+-- a write or a read has the session's next number, and is a turn from what it had seen to what it sees then
 pub record DeskTurn (tells : Bool) (a : DeskState) (c : Call) (z : DeskState) : Type 0 where
   pub placement : z.placement ≡ a.placement
   pub admits : z.admits ≡ a.admits
@@ -51,7 +51,7 @@ DeskSteps tells a (cache_counted hits misses) z = z ≡ a
 abbrev pub next_call : DeskState → ℕ → List ℕ → Request → Reply → Call
 next_call a tx user request reply = record { number = a.requests + 1; tx = tx; user = user; request = request; reply = reply }
 
--- a desk may be asked for this
+-- the desk may be asked for this request by this user
 pub record CanAskDesk (a : DeskState) (user : List ℕ) (request : Request) : Type 0 where
   pub room : a.requests < REQUEST_LIMIT
   pub short : length user ≤ USER_LIMIT
@@ -62,7 +62,7 @@ abbrev pub tx_after_write : ℕ → Act → ℕ → ℕ
 tx_after_write zero act tx = tx
 tx_after_write (suc n) act tx = tx_after_entry (suc n) tx act
 
--- the entry of this number is the call's, and the session's only new one; with 0 the session has no new one
+-- the entry of this number is the call's, and the session's only new one; with 0 the session has no new entry
 abbrev pub IsEntryNumber : ℕ → Act → DeskState → Call → DeskState → Type 0
 IsEntryNumber zero act a c z = entry_count_of a.session z.seen.front ≡ entry_count_of a.session a.seen.front
 IsEntryNumber (suc n) act a c z =

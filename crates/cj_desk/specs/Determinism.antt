@@ -30,6 +30,6 @@ AsksTheSame (cache_counted hits misses) (cache_counted others more) = Unit {0}
 abbrev pub IsDeterministic : {S : Type 0} → (S → DeskCall → S → Type 0) → Type 0
 IsDeterministic {S} leads_to = (a z u : S) (x y : DeskCall) → AsksTheSame x y → leads_to a x z → leads_to a y u → (x ≡ y) × (z ≡ u)
 
--- none of the replies is that memory is wanting
+-- none of the replies says that memory ran out
 abbrev pub NoneWantsMemory : List Reply → Type 0
 NoneWantsMemory replies = AllByRecursion (λ (reply : Reply). reply ≢ refused_reply NO_MEMORY) replies

@@ -1,4 +1,4 @@
--- What a session at a desk is sent for the bytes taken of it, and where that leaves the desk.
+-- What a session at a desk is sent for the bytes taken, and where that leaves the desk.
 use Rattle.std.specs.Prelude.{◌≡◌, ◌≢◌, ◌⊎◌, ℕ, ℤ, ◌-◌, ◌^◌, ◌<◌, ◌≤◌, min, Bool, true, false, List, [], ◌∷◌, ◌++◌, length, take, IfSome}
 use Rattle.std.specs.declared.option.Option.{Option}
 use Rattle.std.specs.declared.option.Option.TheVariants.{None, Some}
@@ -26,7 +26,8 @@ use Rattle.cj_cluster.specs.Moves.Moves.{forbidden_by}
 use Rattle.cj_cluster.specs.Wire.Sessions.{refused_reply, is_quit}
 use Rattle.cj_desk.specs.DeskStates.{DeskState, desk_tx, DeskCall, turn_taken, query_skipped, cache_counted, next_call}
 
--- What a session is served with: the state of a desk and where a call leads the desk, what a generator draws and the generator after it, and the moment that the clock shows, where it tells.
+-- What a session is served with: the state of a desk, and where a call leads the desk;
+-- the draws of a generator, and the generator after each; the moment that the clock shows, if it tells.
 pub record SessionSetting (S D : Type 0) : Type 1 where
   pub state_of : S → DeskState
   pub leads_to : S → DeskCall → S → Type 0
@@ -38,7 +39,7 @@ pub record SessionSetting (S D : Type 0) : Type 1 where
 abbrev pub setting : {S D : Type 0} → (S → DeskState) → (S → DeskCall → S → Type 0) → (D → ℕ → ℕ) → (D → ℕ → D) → Option ℤ → SessionSetting S D
 setting state_of leads_to drawn later moment = record { state_of = state_of; leads_to = leads_to; drawn = drawn; later = later; moment = moment }
 
--- what a client's session has come to: the user that logged in, the desk, and the generator of random numbers
+-- the state of a client's session: the user that logged in, the desk, and the generator of random numbers
 pub record ClientState (S D : Type 0) : Type 0 where
   pub user : Option (List ℕ)
   pub desk : S
@@ -50,7 +51,7 @@ client_state user desk draws = record { user = user; desk = desk; draws = draws 
 
 -- ---- Login
 
--- what a Login is answered, where a user logged in before or none did; whether its account is admitted matters only to the first that is accepted
+-- what a Login is answered, after a user logged in or before; whether its account is admitted matters only before
 abbrev pub login_reply : Option (List ℕ) → Bool → Reply
 login_reply (Some user) admitted = refused_reply ALREADY_LOGGED_IN
 login_reply None true = Done 0
@@ -96,7 +97,7 @@ pub record IsSyntaxRefusal (text : List ℕ) (reply : Reply) : Type 0 where
   pub nothing : ReadsAsNothing text
   pub replied : reply ≡ refused_reply SYNTAX
 
--- what the state of the session's transaction forbids; it forbids no query
+-- the refusal of an act that the state of the session's transaction forbids; no query is forbidden
 abbrev pub refusal_by_transaction : ℕ → Option Act → Option Refusal
 refusal_by_transaction tx None = None
 refusal_by_transaction tx (Some act) = forbidden_by tx act
@@ -109,11 +110,11 @@ pub record IsTransactionRefusal (tx : ℕ) (text : List ℕ) (reply : Reply) : T
   pub forbids : refusal_by_transaction tx (act_of request) ≡ Some refusal
   pub replied : reply ≡ Refused refusal
 
--- why a user's Query never reaches the desk: the text is no statement, the session's transaction forbids it, or memory is wanting
+-- why a user's Query never reaches the desk: the text is no statement, its transaction forbids it, or memory ran out
 abbrev pub IsRefusedBefore : ℕ → List ℕ → Reply → Type 0
 IsRefusedBefore tx text reply = IsSyntaxRefusal text reply ⊎ IsTransactionRefusal tx text reply ⊎ (reply ≡ refused_reply NO_MEMORY)
 
--- the request as it reaches the desk: one moment stands for each NOW, and a fresh draw for each RAND
+-- the request as it reaches the desk: one moment replaces each NOW, and a fresh draw each RAND
 abbrev pub request_at_desk : {S D : Type 0} → SessionSetting S D → ℤ → D → Request → Request
 request_at_desk w moment draws request = rewritten moment (draws_from w.drawn w.later draws (bounds request)) request
 
@@ -139,7 +140,7 @@ AnswersQuery w (Some user) a text reply z = (IsRefusedBefore (desk_tx (w.state_o
 
 -- ---- one message
 
--- From a the message is answered so, and then the client's session stands at z.
+-- From state a the message is answered so, and the client's session is then in state z.
 abbrev pub AnswersMessage : {S D : Type 0} → SessionSetting S D → ClientState S D → Message → Reply → ClientState S D → Type 0
 AnswersMessage w a (message.Login user password) reply z = AnswersLoginAtDesk w a user password reply z
 AnswersMessage w a (message.Query text) reply z = AnswersQuery w a.user a text reply z
@@ -150,25 +151,25 @@ AnswersMessage w a message.Quit reply z = ⊥
 abbrev pub too_large_reply : Answer → Reply
 too_large_reply a = Refused (record { code = TOO_LARGE; a = min (reply_length (Rows a)) (2 ^ 64 - 1); b = 0 })
 
--- what is sent of an answer: itself, or in its place that it is too large, or that memory is wanting
+-- what is sent for an answer: itself, or in its place that it is too large, or that memory ran out
 abbrev pub SendsRows : Answer → Reply → Type 0
 SendsRows a sent =
     ((reply_length (Rows a) ≤ FRAME_LIMIT) × (sent ≡ Rows a)) ⊎ ((FRAME_LIMIT < reply_length (Rows a)) × (sent ≡ too_large_reply a)) ⊎ (sent ≡ refused_reply NO_MEMORY)
 
--- what is sent of a reply: itself, but for rows
+-- what is sent for a reply: itself, unless it is rows
 abbrev pub SendsReply : Reply → Reply → Type 0
 SendsReply (Done count) sent = sent ≡ Done count
 SendsReply (Rows a) sent = SendsRows a sent
 SendsReply (Stats hits misses) sent = sent ≡ Stats hits misses
 SendsReply (Refused r) sent = sent ≡ Refused r
 
--- From a the message is sent the reply, and then the client's session stands at z.
+-- From state a the reply is sent for the message, and the client's session is then in state z.
 pub record MessageExchange {S D : Type 0} (w : SessionSetting S D) (a : ClientState S D) (m : Message) (reply : Reply) (z : ClientState S D) : Type 0 where
   pub answer : Reply
   pub answers : AnswersMessage w a m answer z
   pub sends : SendsReply answer reply
 
--- From a the messages are sent the replies, one each, and then the client's session stands at z.
+-- From state a a reply is sent for each message in order, and the client's session is then in state z.
 abbrev pub MessageExchanges : {S D : Type 0} → SessionSetting S D → ClientState S D → List Message → List Reply → ClientState S D → Type 0
 MessageExchanges w a [] [] z = z ≡ a
 MessageExchanges w a [] (r ∷ rs) z = ⊥
@@ -177,7 +178,8 @@ MessageExchanges {S} {D} w a (m ∷ ms) (r ∷ rs) z = (mid : ClientState S D) �
 
 -- ---- the whole session
 
--- A session so far: the bytes taken begin with messages, none of them a Quit, which have their replies; the rest is not looked at yet.
+-- A session so far: the bytes taken begin with messages, none of them a Quit, which have their replies.
+-- The rest is not looked at yet.
 pub record TranscriptSoFar {S D : Type 0} (w : SessionSetting S D) (a : ClientState S D) (taken rest : List ℕ) (replies : List Reply) (z : ClientState S D) : Type 0 where
   pub messages : List Message
   pub whole : taken ≡ flat_map frame messages ++ rest
@@ -195,7 +197,7 @@ pub record IsFaultyRest (rest : List ℕ) (fault : FrameFault) : Type 0 where
   pub stops : BeginsNoFrame rest
   pub fault_is : fault_of rest ≡ Some fault
 
--- what is sent of a faulty frame
+-- what is sent for a faulty frame
 abbrev pub bad_frame_reply : FrameFault → Reply
 bad_frame_reply fault = Refused (record { code = BAD_FRAME; a = fault_number fault; b = 0 })
 
@@ -203,7 +205,7 @@ bad_frame_reply fault = Refused (record { code = BAD_FRAME; a = fault_number fau
 abbrev pub IsWrittenWhole : List Reply → List ℕ → Type 0
 IsWrittenWhole replies written = written ≡ flat_map reply_bytes replies
 
--- all replies but the last were written whole, and of that one a front that is not the whole
+-- all replies but the last were written whole, and of the last one less than all its bytes
 pub record IsCutShort (replies : List Reply) (written : List ℕ) : Type 0 where
   pub before : List Reply
   pub last : Reply
@@ -212,11 +214,11 @@ pub record IsCutShort (replies : List Reply) (written : List ℕ) : Type 0 where
   pub short : count < length (reply_bytes last)
   pub bytes : written ≡ flat_map reply_bytes before ++ take count (reply_bytes last)
 
--- the replies, or these and the refusal of a faulty rest, were cut short
+-- the replies were cut short, or these and the refusal of a faulty rest were
 abbrev pub IsCutTranscript : List ℕ → List Reply → List ℕ → Type 0
 IsCutTranscript rest replies written = IsCutShort replies written ⊎ ((fault : FrameFault) × IsFaultyRest rest fault × IsCutShort (replies ++ bad_frame_reply fault ∷ []) written)
 
--- how a session ends, by what stands behind the messages that have their replies
+-- how a session ends, by what comes after the messages that have their replies
 abbrev pub EndsTranscript : List ℕ → List Reply → List ℕ → SessionEnd → Type 0
 EndsTranscript rest replies written end.Quit = ((more : List ℕ) × (rest ≡ frame message.Quit ++ more)) × IsWrittenWhole replies written
 EndsTranscript rest replies written end.Eof = (rest ≡ []) × IsWrittenWhole replies written
@@ -239,7 +241,8 @@ pub record RollsBackAtEnd {S : Type 0} (state_of : S → DeskState) (leads_to : 
 abbrev pub LeavesDesk : {S : Type 0} → (S → DeskState) → (S → DeskCall → S → Type 0) → Option (List ℕ) → S → S → Type 0
 LeavesDesk state_of leads_to user a z = ((desk_tx (state_of a) ≡ 0) × (z ≡ a)) ⊎ RollsBackAtEnd state_of leads_to user a z
 
--- The transcript of a session over the bytes taken: what is written, how it ends, and how it leaves the desk and the generator.
+-- The transcript of a session over the bytes taken: what is written, how it ends, and where it leaves the desk and
+-- the generator.
 pub record SessionTranscript {S D : Type 0} (w : SessionSetting S D) (a : ClientState S D) (taken written : List ℕ) (ending : SessionEnd) (desk : S) (draws : D) : Type 0 where
   pub rest : List ℕ
   pub replies : List Reply

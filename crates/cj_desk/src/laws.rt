@@ -13,14 +13,14 @@ ghost use Rattle.cj_desk.specs.SessionTranscripts.{setting, ClientState, Session
 
 use crate::desk::Desk;
 
-/// The calls of a session are a chain of turns, from what it had seen to what it has seen then.
+/// The calls of a session are a chain of turns, from what it had seen before to what it has seen after.
 pub fn transcripts_are_chains<R, K: Desk<R>, T>()
     ensures { (drawn : T → ℕ → ℕ) (later : T → ℕ → T) (moment : Option ℤ) (a : ClientState K T) (taken written : List ℕ) (ending : SessionEnd) (desk : K) (draws : T) →
         SessionTranscript (setting K.state_of K.leads_to drawn later moment) a taken written ending desk draws → IsDeskChain K.tells (K.state_of a.desk) (K.state_of desk) }
 {}
 
-/// A chain of a session's turns stands over the history that it ends at: there the session has, past the chain's start,
-/// the entries that its calls scheduled, in order and each once.
+/// Over a chain of turns, the session's new entries in the history are those that its calls scheduled,
+/// in order and each once.
 pub fn chains_stand_over_their_histories()
     ensures { (tells : Bool) (a z : DeskState) (chain : IsDeskChain tells a z) → StandsOver tells a z chain }
 {}
@@ -32,7 +32,7 @@ pub fn transcripts_follow_the_reading<R, K: Desk<R>, T>()
         Frames taken reading rest → AreAnsweredMessages reading ending transcript.so_far.messages }
 {}
 
-/// Where a count of the desk never falls and is no greater after a session than before it, each call of the session left it as it was.
+/// If a count of the desk never falls, and is no greater after a session than before, each call left it unchanged.
 pub fn kept_counts_are_kept_by_each_call<R, K: Desk<R>, T>()
     ensures { (count : K → ℕ) → ((a z : K) (x : DeskCall) → K.leads_to a x z → count a ≤ count z) →
         (drawn : T → ℕ → ℕ) (later : T → ℕ → T) (moment : Option ℤ) (a : ClientState K T) (taken written : List ℕ) (ending : SessionEnd) (desk : K) (draws : T) →

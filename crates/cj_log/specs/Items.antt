@@ -17,12 +17,13 @@ abbrev pub backend_byte : Option ℕ → ℕ
 backend_byte None = 255
 backend_byte (Some b) = b
 
--- the body of an entry: 01, number, session, place in the session, transaction, user and text; of a marker: 02, how many entries stand before it, name and backend
+-- the body of an entry: 01, number, session, request number, transaction, user and text;
+-- or of a marker: 02, how many entries come before it, name and backend
 abbrev pub item_bytes : LogItem → List ℕ
 item_bytes (Entry e) = 1 ∷ to_be_bytes w64 e.number ++ (to_be_bytes w64 e.session ++ (to_be_bytes w64 e.seq ++ (to_be_bytes w64 e.tx ++ (str16 e.user ++ str64 e.text))))
 item_bytes (Marker m) = 2 ∷ to_be_bytes w64 m.after ++ (str16 m.name ++ backend_byte m.b ∷ [])
 
--- an entry that has such a body
+-- an entry whose fields fit the body of an entry
 pub record IsEntry (e : LogEntry) : Type 0 where
   pub number : e.number < 2 ^ 64
   pub session : e.session < 2 ^ 64
@@ -33,12 +34,12 @@ pub record IsEntry (e : LogEntry) : Type 0 where
   pub text : IsText e.text
   pub long : length e.text < 2 ^ 64
 
--- the backend of a marker
+-- a backend, or none, that fits its byte in a marker's body
 abbrev pub FitsBackendByte : Option ℕ → Type 0
 FitsBackendByte None = Unit {0}
 FitsBackendByte (Some b) = b < 255
 
--- a marker that has such a body
+-- a marker whose fields fit the body of a marker
 pub record IsMarker (m : LogMarker) : Type 0 where
   pub after : m.after < 2 ^ 64
   pub name : is_name m.name ≡ true
@@ -48,7 +49,7 @@ abbrev pub IsItem : LogItem → Type 0
 IsItem (Entry e) = IsEntry e
 IsItem (Marker m) = IsMarker m
 
--- An item that may be appended. The rest of what an item is holds of the types of its fields.
+-- An item that may be appended. The types of its fields give the rest of what makes it an item.
 abbrev pub CanAppend : LogItem → Type 0
 CanAppend (Entry e) = length e.user ≤ USER_LIMIT
 CanAppend (Marker m) = (m.name ≢ []) × (m.b ≢ Some 255)
@@ -57,6 +58,6 @@ CanAppend (Marker m) = (m.name ≢ []) × (m.b ≢ Some 255)
 abbrev pub IsNoItem : List ℕ → Type 0
 IsNoItem body = (item : LogItem) → IsItem item → body ≢ item_bytes item
 
--- a body is that of one item
+-- a body is that of one item at most
 abbrev pub BodiesFixItems : Type 0
 BodiesFixItems = (a b : LogItem) → IsItem a → IsItem b → item_bytes a ≡ item_bytes b → a ≡ b

@@ -1,4 +1,4 @@
-//! The item of a body.
+//! Reading the item of a body.
 
 ghost use Rattle.std.specs.Prelude.{◌≡◌, IfOk};
 ghost use Rattle.cj_codec.specs.Readings.{ReadsFields};
@@ -12,7 +12,7 @@ use cj_codec::{CodecError, Field, Reader, read_whole};
 use cj_model::{NoMemory, Text, USER_LIMIT};
 use std::alloc::Global;
 
-/// A copy of the bytes as a text, where they are one.
+/// Copies the bytes as a text; `None` if they are no text.
 fn text_of(alloc: Global, bytes: &[u8]) -> Result<Option<Text>, NoMemory>
     ensures { IfOk result (λ text. text ≡ text_of bytes.now) }
 {
@@ -106,7 +106,7 @@ impl Field for ItemField {
     }
 }
 
-/// The item of a body. `NoItem` comes exactly where it is no item's.
+/// Reads the item that has this body. `NoItem` comes exactly if no item has it.
 pub fn item_of(alloc: Global, body: &[u8]) -> Result<LogItem, ItemError>
     ensures { FindsItem body.now result }
 {

@@ -1,4 +1,4 @@
-//! The body of an item.
+//! Writing the body of an item.
 
 ghost use Rattle.std.specs.Prelude.{◌≡◌, ◌≤◌, length, IfOk};
 ghost use Rattle.cj_log.specs.Items.{backend_byte, item_bytes, IsItem, CanAppend};
@@ -41,7 +41,7 @@ fn marker_bytes(alloc: Global, marker: &LogMarker) -> Result<Vec<u8>, NoMemory>
     Ok(body)
 }
 
-/// The body of an item.
+/// Writes the body of an item that may be appended; fails if memory runs out.
 pub fn bytes_of(alloc: Global, item: &LogItem) -> Result<Vec<u8>, NoMemory>
     requires { CanAppend item.now }
     ensures body { IfOk result (λ body. body.items ≡ item_bytes item.now) }

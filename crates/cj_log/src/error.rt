@@ -13,10 +13,10 @@ pub enum LogError {
     NoMemory,
 }
 
-/// Why no item was read of a body.
+/// Why no item was read from a body.
 #[derive(Clone, Copy, Debug, PartialEq, Eq)]
 pub enum ItemError {
-    /// The body is no item's.
+    /// No item has this body.
     NoItem,
     NoMemory,
 }

@@ -20,10 +20,10 @@ use cj_records::{Records, RecordsError};
 use std::alloc::Global;
 use std::marker::Model;
 
-/// The magic of a log.
+/// The first bytes of a log.
 const MAGIC: [u8; 4] = *b"CJL1";
 
-/// The items of all records, in order.
+/// Reads the items of all records, in order.
 fn read_items<S: Store>(
     alloc: Global,
     records: &mut Records<S>,
@@ -79,11 +79,11 @@ impl<S: Store> Model for Log<S> {
 }
 
 impl<S: Store> Log<S> {
-    /// Opens the log of a store, which is begun where it is new, and answers the items that it found.
+    /// Opens the log of a store, and answers the items found. A new store, of at most five bytes, gets an empty log.
     ///
-    /// All gates are looked at first, and then the bodies in order. `BadRecord` comes exactly where
-    /// the bytes are no log. Refused, it hands the store back, in which nothing was written but the
-    /// bytes of a new file.
+    /// All gates are read first, and then the bodies in order. `BadRecord` comes exactly if the bytes are no log;
+    /// it has the offset of what is bad. An error gives the store back. Only a new one may have been written to,
+    /// and still has at most five bytes.
     pub fn open(alloc: Global, store: S) -> Result<(Log<S>, LogItems), (RecordsError, S)>
         requires { S.tells ≡ true → Only (S.held store) (S.may store) }
         ensures bytes { S.tells ≡ true → log.Opens S.held (S.held store) result }
@@ -101,16 +101,17 @@ impl<S: Store> Log<S> {
         }
     }
 
-    /// Adds an item at the end. Refused, it leaves the list; `NoMemory` comes only before the gate
-    /// of the item is opened.
+    /// Appends an item and makes it safe.
+    ///
+    /// An error leaves the items as they were. `NoMemory` comes only before the gate of the item is opened. After
+    /// `Failed` a stop may leave the refused item too.
     pub fn append(&mut self, item: LogItem) -> Result<(), LogError>
         requires { CanAppend item }
         ensures items { S.tells ≡ true → Adds self.old.items item self.new.items result }
         ensures memory { S.tells ≡ true → IsErrOf result LogError.NoMemory → self.new.torn ≡ true → self.old.torn ≡ true }
         ensures cause { CountsFault (IsErrOf result LogError.Failed) (S.faults self.old.store) (S.faults self.new.store) }
 
-        // A stop at any moment of the call leaves the items from before it, or one more; after `Ok` a stop
-        // leaves the new list.
+        // A stop at any moment of the call leaves the old items, or one more. After `Ok` it leaves the new list.
         ensures any_moment { S.tells ≡ true → LeavesOnly S.moment S.since self.old.store self.new.store (log.IsBeforeOrAfter self.old item) }
         ensures refused { S.tells ≡ true → log.Refuses self.old item self.new result }
         ensures safe { S.tells ≡ true → OnOk result (log.LeavesItems (S.may self.new.store) self.new.items) }
@@ -126,22 +127,22 @@ impl<S: Store> Log<S> {
         }
     }
 
-    /// Shows what holds of all logs: the bytes, and what a stop leaves of them, keep these items; where
-    /// an append was refused while it opened a gate, maybe that item too.
+    /// Shows for proofs what holds of all logs: the bytes, and what a stop leaves of them, keep these items.
+    /// Where an append was refused while it opened a gate, they may keep that item too.
     pub fn legal(&self)
         ensures each { S.tells ≡ true → AllByRecursion IsItem self.now.items }
         ensures items { S.tells ≡ true → self.now.torn ≡ false → KeepsItems (S.held self.now.store) self.now.items }
         ensures at_least { S.tells ≡ true → KeepsAtLeast (S.held self.now.store) self.now.items self.now.torn }
         ensures safe { S.tells ≡ true → self.now.torn ≡ false → log.LeavesItems (S.may self.now.store) self.now.items }
 
-        // Between two calls a stop leaves these items, whatever is appended next, or them with the one that
-        // was refused.
+        // Between two calls a stop leaves these items, or these and the one that was refused while a gate
+        // was opened.
         ensures now { S.tells ≡ true → (item : LogItem) → LeavesOnly S.moment S.since self.now.store self.now.store (log.IsBeforeOrAfter self.now item) }
     {
         self.records.legal();
     }
 
-    /// The store, as it is.
+    /// Gives the store back, as it is.
     pub fn into_store(self) -> S
         ensures { result ≡ self.store }
     {

@@ -1,9 +1,9 @@
 //! The vocabulary of the controller: types of requests, answers, databases, entries and messages.
 //!
 //! Contracts see each value as plain data: names and texts as bytes, conditions as trees, sets as rising lists.
-//! A copy equals its original, and an allocation failure is its only error. `Same` decides that equality.
-//! `specs/` defines what every other crate's contract cites. `Sql` has the grammar, `Database` what statements do.
-//! `Wire` has frames and replies, `Cluster` placements, balancing, accounts and the result cache.
+//! A copy equals its original; running out of memory is the only error. `Same` decides that equality.
+//! `specs/` has definitions that contracts everywhere cite. `Sql` has the grammar, `Database` what statements do.
+//! `Wire` has frames and replies; `Cluster` has placements, balancing, accounts and the result cache.
 //! A change of SQL usually concerns `request.rt`, `select.rt`, `write.rt`, `term.rt`, `specs/Sql`, `specs/Database`.
 //! Refusals are in `codes.rt`, limits in `limits.rt`. Nearly every crate uses this one: a change proves all again.
 //! Proofs begin in `proofs/DatabaseLaws`: a step leaves a database a database. `PartLaws` treats a backend's part.

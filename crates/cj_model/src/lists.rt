@@ -102,8 +102,8 @@ impl<T: Drop> ListsOf<T> {
 }
 
 impl<T> ListsOf<T> {
-    #[tactic(auto, using(crate::proofs::CutLaws::cut_count))]
     /// How many lists there are.
+    #[tactic(auto, using(crate::proofs::CutLaws::cut_count))]
     pub fn len(&self) -> usize
         ensures { result ≡ length self.now }
     {

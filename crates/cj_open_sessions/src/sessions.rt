@@ -11,7 +11,7 @@ use cj_model::{NoMemory, REQUEST_LIMIT, SESSION_LIMIT, Select, Text};
 use std::alloc::Global;
 use std::marker::Model;
 
-/// Open sessions in rising number, which contracts see as a list. There is room for as many as there can be.
+/// The open sessions in rising number, which contracts see as a list. There is room for as many as may be open.
 #[derive(Drop)]
 pub struct Sessions {
     open: Vec<OpenSession>,
@@ -35,7 +35,7 @@ impl Model for Sessions {
     ghost invariant = { λ sessions. HasRoomForAll sessions.open.items (vec_capacity sessions.open) };
 }
 
-/// The number of the session's open read, or of the next request.
+/// The request number of the session's open read, or of its next request if no read is open.
 pub fn read_number(session: &OpenSession) -> u64
     requires { session.now.requests < REQUEST_LIMIT }
     ensures { result ≡ moves.read_number session.now }
@@ -47,7 +47,7 @@ pub fn read_number(session: &OpenSession) -> u64
     }
 }
 
-/// Closes the session's read.
+/// Closes the session's read, which is counted as a request.
 fn close_read(session: &mut OpenSession)
     requires { session.old.requests < REQUEST_LIMIT }
     ensures { session.new ≡ moves.was_answered session.old }
@@ -56,7 +56,7 @@ fn close_read(session: &mut OpenSession)
     session.reading = None;
 }
 
-/// Keeps the session's read open.
+/// Keeps the session's read open, which is counted as a request once.
 fn put_read(session: &mut OpenSession, select: Select, tried: u32)
     requires { session.old.requests < REQUEST_LIMIT }
     ensures { session.new ≡ moves.still_reading select tried session.old }
@@ -66,7 +66,7 @@ fn put_read(session: &mut OpenSession, select: Select, tried: u32)
 }
 
 impl Sessions {
-    /// No sessions.
+    /// Makes an empty list, with room for all sessions that may be open. Fails if memory runs out.
     pub fn new(alloc: Global) -> Result<Self, NoMemory>
         ensures { IfOk result (λ made. made ≡ []) }
     {
@@ -75,6 +75,7 @@ impl Sessions {
         })
     }
 
+    /// How many sessions are open.
     pub fn len(&self) -> usize
         ensures { result ≡ length self.now }
     {
@@ -93,6 +94,7 @@ impl Sessions {
         }
     }
 
+    /// The open session with this number; `None` if there is none.
     pub fn get(&self, number: u64) -> Option<&OpenSession>
         ensures { option_copied result ≡ find_session self.now number }
     {
@@ -102,7 +104,7 @@ impl Sessions {
         }
     }
 
-    /// Adds a session of a number above all others. It takes no memory.
+    /// Adds a session, whose number is above all others. Fewer than `SESSION_LIMIT` are open. Allocates nothing.
     pub fn open(&mut self, number: u64, user: Text)
         requires few { length self.old < SESSION_LIMIT }
         requires above { All (λ x. x.number < number) self.old }
@@ -117,6 +119,7 @@ impl Sessions {
         });
     }
 
+    /// Removes the session with this number.
     pub fn close(&mut self, number: u64)
         ensures { self.new ≡ filter (λ x. not (x.number == number)) self.old }
     {
@@ -125,7 +128,7 @@ impl Sessions {
         }
     }
 
-    /// The session has made one request more.
+    /// Counts one more request of the session.
     pub fn count(&mut self, number: u64)
         requires { HasRequestLeft self.old number }
         ensures { self.new ≡ with_session self.old number moves.with_one_request }
@@ -136,7 +139,7 @@ impl Sessions {
         }
     }
 
-    /// The session was answered at a position.
+    /// Records that the session was answered at a position, which its reads need from now on.
     pub fn answer(&mut self, number: u64, position: u64)
         ensures { self.new ≡ with_session self.old number (moves.answered_at position) }
     {
@@ -146,7 +149,7 @@ impl Sessions {
         }
     }
 
-    /// The session's read was refused.
+    /// Closes the session's read, which was refused. The position that its reads need stays.
     pub fn refuse_read(&mut self, number: u64)
         requires { HasRequestLeft self.old number }
         ensures { self.new ≡ with_session self.old number moves.was_answered }
@@ -156,7 +159,7 @@ impl Sessions {
         }
     }
 
-    /// The session's read was answered at a position.
+    /// Closes the session's read, which was answered at a position. Its reads need that from now on.
     pub fn answer_read(&mut self, number: u64, position: u64)
         requires { HasRequestLeft self.old number }
         ensures { self.new ≡ with_session self.old number (λ x. moves.answered_at position (moves.was_answered x)) }
@@ -168,7 +171,7 @@ impl Sessions {
         }
     }
 
-    /// The session's read is still open, and the backends of a mask have failed in it.
+    /// Keeps the session's read open, in which the backends of the mask `tried` have failed.
     pub fn keep_reading(&mut self, number: u64, select: Select, tried: u32)
         requires { HasRequestLeft self.old number }
         ensures { self.new ≡ with_session self.old number (moves.still_reading select tried) }

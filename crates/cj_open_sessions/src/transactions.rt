@@ -1,11 +1,11 @@
-//! What the state of a session's transaction makes of its next act.
+//! What the state of a session's transaction means for its next act.
 
 ghost use Rattle.std.specs.Prelude.{◌≡◌};
 ghost use Rattle.cj_cluster.specs.Moves.Moves as moves;
 
 use cj_model::{Act, IN_TRANSACTION, NO_TRANSACTION, Refusal, SCHEMA_IN_TRANSACTION};
 
-/// What forbids the act where the session's open transaction is `tx`, 0 for none.
+/// Why the act is forbidden while the session's open transaction is `tx` (0 is none); `None` if it isn't.
 pub fn forbidden_by(tx: u64, act: &Act) -> Option<Refusal>
     ensures { result ≡ moves.forbidden_by tx act.now }
 {
@@ -26,7 +26,7 @@ pub fn forbidden_by(tx: u64, act: &Act) -> Option<Refusal>
     }
 }
 
-/// The transaction of the act's entry: BEGIN has none yet, CREATE and DROP are outside of any.
+/// The transaction of an act's entry, in a session whose open one is `tx`; 0 for BEGIN, CREATE and DROP.
 pub fn tx_of_act(tx: u64, act: &Act) -> u64
     ensures { result ≡ moves.tx_of_act tx act.now }
 {

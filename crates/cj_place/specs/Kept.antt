@@ -10,7 +10,7 @@ use Rattle.cj_model.specs.Database.Tables.{Rises}
 use Rattle.cj_place.specs.declared.rows.HostRow.{HostRow}
 use Rattle.cj_place.specs.Layouts.{backend_number, by_row}
 
--- the mask has the backends that stand among the hosts
+-- the mask has the backends that are among the hosts
 abbrev pub HasMask : List (List ℕ) → List (List ℕ) → ℕ → Type 0
 HasMask names hosts mask = (b : ℕ) → in_mask mask b ≡ (nat_lt b (length names) && list_any (λ host. backend_number names host == b) hosts)
 
@@ -22,11 +22,11 @@ IsMasked names row = HasMask names row.given.hosts row.mask
 abbrev pub given_rows : List HostRow → List PlaceRow
 given_rows rows = map (λ (row : HostRow). row.given) rows
 
--- the mask of the row of a table, or 0 where there is no such row
+-- the mask of the row of a table; 0 if there is no such row
 abbrev pub mask_in : List HostRow → List ℕ → ℕ
 mask_in rows table = option_map_or (λ (row : HostRow). row.mask) (find (λ (row : HostRow). bytes_eq row.given.table table) rows) 0
 
--- some backends, not too many, the rows in rising name of their table with their masks, and an empty name
+-- 1 to 16 backends, the rows in rising name of their table with their masks, and an empty name
 pub record IsKeptPlacement (names : List (List ℕ)) (rows : List HostRow) (empty : List ℕ) : Type 0 where
   pub some : 0 < length names
   pub most : length names ≤ BACKEND_LIMIT

@@ -17,7 +17,7 @@ use Rattle.cj_model.specs.Sql.Names.{is_name}
 use Rattle.cj_place.specs.declared.error.PlaceError.{PlaceError}
 use Rattle.cj_place.specs.declared.error.PlaceError.TheVariants as error
 
--- the names of the backends, whether each of them hosts every table, and the rows in rising name of their table
+-- a layout: the names of the backends, whether each hosts every table, and the rows in rising name of their table
 pub record Layout : Type 0 where
   pub names : List (List ℕ)
   pub full : Bool
@@ -37,11 +37,11 @@ placement_of l = record { backends = length l.names; full = l.full; hostings = f
 
 -- ---- making one
 
--- rows by the name of their table
+-- the order of rows by the name of their table
 abbrev pub by_row : PlaceRow → PlaceRow → Ordering
 by_row r s = name_cmp r.table s.table
 
--- the level at which each backend hosts every table
+-- whether each backend hosts every table at this level
 abbrev pub is_full : Level → Bool
 is_full Raidb0 = false
 is_full Raidb1 = true
@@ -51,7 +51,7 @@ is_full Raidb2 = false
 abbrev pub layout_of : Level → List (List ℕ) → List PlaceRow → Layout
 layout_of level names rows = record { names = names; full = is_full level; rows = fold (put_by by_row) [] rows }
 
--- the refusal, if there is one; otherwise the layout, or want of memory
+-- the answer is the refusal, if there is one; otherwise the layout, unless memory ran out
 abbrev pub MakesLayout : Option PlaceError → Layout → Result Layout PlaceError → Type 0
 MakesLayout (Some refusal) layout result = result ≡ Err refusal
 MakesLayout None layout (Ok made) = made ≡ layout
@@ -63,21 +63,22 @@ MakesLayout None layout (Err e) = e ≡ error.NoMemory
 abbrev pub tables_at : Layout → ℕ → List (List ℕ)
 tables_at l b = filter (hosts (placement_of l) b) (map (λ (row : PlaceRow). row.table) l.rows)
 
--- the tables that a dump of backend b covers: those that the placement names for it, or none where it hosts every table
+-- the tables that a dump of backend b covers: those that the placement names for it; none under full replication
 abbrev pub covered : Layout → ℕ → List (List ℕ)
 covered l b = if l.full then [] else fold (put_by name_cmp) [] (filter is_name (tables_at l b))
 
--- backend b is enabled and hosts the table, and each other backend isn't or doesn't
+-- whether backend b is the only enabled host of the table
 abbrev pub is_last_host : Placement → ℕ → ℕ → List ℕ → Bool
 is_last_host p b enabled table = hosts p b table && in_mask enabled b && list_all (λ c. c == b || not (hosts p c table && in_mask enabled c)) (range_with_len 0 p.backends)
 
--- the first table of the rows whose only enabled host is b; where every backend hosts all tables, the empty name if b alone is enabled
+-- the first table of the rows whose only enabled host is b;
+-- under full replication the empty name, if b alone is enabled
 abbrev pub last_host : Layout → ℕ → ℕ → Option (List ℕ)
 last_host l b enabled =
     if l.full then (if is_last_host (placement_of l) b enabled [] then Some [] else None)
     else find (is_last_host (placement_of l) b enabled) (map (λ (row : PlaceRow). row.table) l.rows)
 
--- backend b hosts the table, which is none of these
+-- whether backend b hosts the table, which is none of these
 abbrev pub is_outside : Placement → ℕ → List (List ℕ) → List ℕ → Bool
 is_outside p b tables table = hosts p b table && not (list_any (λ t. bytes_eq t table) tables)
 
@@ -85,6 +86,6 @@ is_outside p b tables table = hosts p b table && not (list_any (λ t. bytes_eq t
 abbrev pub first_outside : Layout → ℕ → List (List ℕ) → Option (List ℕ)
 first_outside l b tables = find (is_outside (placement_of l) b tables) (map (λ (row : PlaceRow). row.table) l.rows)
 
--- a table that the placement lists is hosted by backend b and not by the other
+-- whether backend b hosts a table of the placement's list that the other doesn't
 abbrev pub hosts_beyond : Placement → ℕ → ℕ → Bool
 hosts_beyond p b other = list_any (λ (h : Hosting). hosts p b h.table && not (hosts p other h.table)) p.hostings

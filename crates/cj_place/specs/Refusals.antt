@@ -18,17 +18,17 @@ use Rattle.cj_place.specs.declared.error.PlaceError.TheVariants.{BackendCount, T
 abbrev pub is_among : List (List ℕ) → List ℕ → Bool
 is_among names name = list_any (λ n. bytes_eq n name) names
 
--- the first of the names that stands among those seen, or among those before it
+-- the first of the names that is among those seen, or among those before it
 abbrev pub repeated : List (List ℕ) → List (List ℕ) → Option (List ℕ)
 repeated seen [] = None
 repeated seen (n ∷ ns) = if is_among seen n then Some n else repeated (seen ++ n ∷ []) ns
 
--- what the first row gives that gives anything
+-- the value for the first row that has one
 abbrev pub some_row : {A : Type 0} → (PlaceRow → Option A) → List PlaceRow → Option A
 some_row f [] = None
 some_row f (row ∷ rows) = option_or (f row) (some_row f rows)
 
--- the first that is there
+-- the first of the options that has a value
 abbrev pub first_some : {A : Type 0} → List (Option A) → Option A
 first_some [] = None
 first_some (o ∷ os) = option_or o (first_some os)
@@ -39,7 +39,7 @@ table_where p rows = option_map (λ (row : PlaceRow). row.table) (find p rows)
 
 -- ---- each refusal
 
--- there are some backends, not too many
+-- whether there are 1 to 16 backends
 abbrev pub has_count : List (List ℕ) → Bool
 has_count backends = nat_le 1 (length backends) && nat_le (length backends) BACKEND_LIMIT
 
@@ -63,7 +63,7 @@ many_hosts rows = table_where (λ row. nat_lt 1 (length row.hosts)) rows
 abbrev pub not_all : List (List ℕ) → List PlaceRow → Option (List ℕ)
 not_all backends rows = table_where (λ row. not (list_all (is_among row.hosts) backends)) rows
 
--- partitioned tables have one host, and those replicated in full have every backend
+-- why the level doesn't allow the rows: partitioned tables have one host, fully replicated ones every backend
 abbrev pub bad_level : Level → List (List ℕ) → List PlaceRow → Option PlaceError
 bad_level Raidb0 backends rows = option_map ManyHosts (many_hosts rows)
 bad_level Raidb1 backends rows = option_map NotAll (not_all backends rows)

@@ -1,27 +1,27 @@
-//! Why there is no such placement.
+//! Why a placement is refused.
 
 use cj_model::{Name, NoMemory};
 use thiserror::Error;
 
-/// Why there is no such placement.
+/// Why a placement is refused.
 #[derive(Debug, Drop, Error)]
 pub enum PlaceError {
     /// There are not 1 to 16 backends.
     #[error("there must be 1 to 16 backends")]
     BackendCount,
-    /// The name of a backend, a table or a host of a table that was named already.
+    /// A backend, a table, or a host of a table is named twice: this name.
     #[error("a backend, a table or a host of a table is named twice")]
     Twice(Name),
-    /// A host that is no backend.
+    /// This host is no backend.
     #[error("a host is no backend")]
     Stranger(Name),
-    /// A table that no backend hosts.
+    /// This table has no host.
     #[error("a table has no host")]
     NoHost(Name),
-    /// A table with more than one host, where tables are partitioned.
+    /// This table has more than one host, though tables are partitioned.
     #[error("a table has more than one host")]
     ManyHosts(Name),
-    /// A table that some backend doesn't host, where tables are replicated in full.
+    /// This table is not on every backend, though tables are replicated in full.
     #[error("a table is not on every backend")]
     NotAll(Name),
     #[error("out of memory")]

@@ -29,7 +29,7 @@ pub struct Placement {
     full: bool,
     /// The rows in rising name of their table.
     rows: ListOf<HostRow>,
-    /// The name that is lent where no table is meant.
+    /// The empty name, which is lent if no table is meant.
     empty: Name,
 }
 
@@ -56,7 +56,7 @@ fn replicates_in_full(level: Level) -> bool
     }
 }
 
-/// Whether it is a name and not the empty one.
+/// Whether the table's name isn't the empty one.
 #[tactic(auto, unfolding(cj_model::specs::Sql::Names::is_name))]
 fn is_named(table: &Name) -> bool
     ensures { result ≡ is_name table.now }
@@ -65,7 +65,9 @@ fn is_named(table: &Name) -> bool
 }
 
 impl Placement {
-    /// The placement of the rows, each of which has a table and its hosts.
+    /// The placement of tables on backends, by rows of a table and its hosts.
+    ///
+    /// The error is the first thing that is wrong with the rows, or `NoMemory`.
     pub fn new(
         alloc: Global,
         level: Level,
@@ -117,7 +119,7 @@ impl Placement {
         &self.names
     }
 
-    /// The name of a backend.
+    /// The name of backend `b`.
     pub fn name(&self, b: u8) -> &Name
         requires { b < length self.now.names }
         ensures { slice_get self.now.names b ≡ Some result.now }
@@ -125,7 +127,7 @@ impl Placement {
         &self.names.as_slice()[b as usize]
     }
 
-    /// The backend of a name; none exactly where no backend has it.
+    /// The number of the backend with this name; `None` exactly if no backend has it.
     pub fn find(&self, name: &Name) -> Option<u8>
         ensures { result ≡ position (λ n. bytes_eq n name.now) self.now.names }
     {
@@ -139,7 +141,7 @@ impl Placement {
         self.full
     }
 
-    /// The mask of the backends that host a table.
+    /// The mask of the backends that host the table.
     pub fn hosts(&self, table: &Name) -> u32
         ensures { (b : ℕ) → in_mask result b ≡ placements.hosts (placement_of self.now) b table.now }
     {
@@ -157,7 +159,7 @@ impl Placement {
         has_bit(self.hosts(table), b)
     }
 
-    /// Whether a backend hosts each table of a set.
+    /// Whether backend `b` hosts each table of the set.
     pub fn serves(&self, b: u8, set: &TableSet) -> bool
         requires { b < length self.now.names }
         ensures { result ≡ hosts_all (placement_of self.now) b set.now }
@@ -186,7 +188,7 @@ impl Placement {
         Ok(set)
     }
 
-    /// The tables of the rows that a backend hosts.
+    /// The tables of the rows that backend `b` hosts. Fails if memory runs out.
     pub fn hosted(&self, alloc: Global, b: u8) -> Result<TableSet, NoMemory>
         requires { b < length self.now.names }
         ensures { IfOk result (λ set. set ≡ fold (put_by name_cmp) [] (tables_at self.now b)) }
@@ -215,8 +217,8 @@ impl Placement {
         Ok(set)
     }
 
-    /// The tables that a dump of the backend covers: those that the rows name for it, or none
-    /// where it hosts every table.
+    /// The tables that a dump of backend `b` covers: those that the rows name for it, or none if each backend hosts
+    /// every table. Fails if memory runs out.
     pub fn covered(&self, alloc: Global, b: u8) -> Result<TableSet, NoMemory>
         requires { b < length self.now.names }
         ensures tables { IfOk result (λ set. set ≡ layouts.covered self.now b) }
@@ -248,8 +250,9 @@ impl Placement {
         None
     }
 
-    /// The first table, in the order of names, whose only enabled host is the backend. Where each
-    /// backend hosts every table, the empty name, exactly where the backend alone is enabled.
+    /// The first table, in the order of names, whose only enabled host is backend `b`; `None` if there is none.
+    ///
+    /// If each backend hosts every table, this is the empty name exactly if backend `b` alone is enabled.
     pub fn last_host(&self, b: u8, enabled: u32) -> Option<&Name>
         requires { b < length self.now.names }
         ensures { option_copied result ≡ layouts.last_host self.now b enabled }
@@ -282,8 +285,7 @@ impl Placement {
         None
     }
 
-    /// The first table of the rows, in the order of names, that the backend hosts and that isn't in
-    /// the set.
+    /// The first table of the rows, in the order of names, that backend `b` hosts and that isn't in the set.
     pub fn first_outside(&self, b: u8, set: &TableSet) -> Option<&Name>
         requires { b < length self.now.names }
         ensures { option_copied result ≡ layouts.first_outside self.now b set.now }
@@ -291,7 +293,7 @@ impl Placement {
         self.outside_of(b, set, self.rows.as_slice())
     }
 
-    /// Whether the backend hosts a table that another doesn't.
+    /// Whether backend `b` hosts a table of the rows that backend `other` doesn't.
     pub fn hosts_beyond(&self, b: u8, other: u8) -> bool
         requires backend { b < length self.now.names }
         requires other { other < length self.now.names }

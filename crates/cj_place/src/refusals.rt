@@ -1,4 +1,4 @@
-//! What is refused as a placement.
+//! Which placements are refused, and why.
 
 ghost use Rattle.std.specs.Prelude.{◌≡◌, [], find, length, map, not, option_copied, option_map, true, IfOk};
 ghost use Rattle.std.specs.List.{list_all, list_any};
@@ -23,7 +23,7 @@ fn has_table(rows: &[PlaceRow], table: &Name) -> bool
     rows.iter().any(|row| row.table.is(table))
 }
 
-/// The first name that stands among those before it, which are kept in a set.
+/// The first name that is among those before it, by a set of these.
 fn repeated_by_set(alloc: Global, names: &[Name]) -> Result<Option<Name>, NoMemory>
     ensures { IfOk result (λ name. name ≡ refusals.repeated [] names.now) }
 {
@@ -36,7 +36,7 @@ fn repeated_by_set(alloc: Global, names: &[Name]) -> Result<Option<Name>, NoMemo
     Ok(None)
 }
 
-/// The first name that stands among those before it, by a look at each of those. It takes no memory.
+/// The first name that is among those before it, by comparing it with each of these; allocates nothing.
 fn repeated_by_scan(names: &[Name]) -> Option<Name>
     ensures { result ≡ refusals.repeated [] names.now }
 {
@@ -48,7 +48,7 @@ fn repeated_by_scan(names: &[Name]) -> Option<Name>
     None
 }
 
-/// The first name that stands among those before it. Where there is no memory for a set it takes longer.
+/// The first name that is among those before it. Without memory for a set this needs more time.
 fn repeated(alloc: Global, names: &[Name]) -> Option<Name>
     ensures { result ≡ refusals.repeated [] names.now }
 {
@@ -169,7 +169,7 @@ fn not_all(backends: &[Name], rows: &[PlaceRow]) -> Option<Name>
     )
 }
 
-/// What the level refuses.
+/// Why the level doesn't allow the rows, if it doesn't.
 fn refused_by_level(level: Level, backends: &[Name], rows: &[PlaceRow]) -> Option<PlaceError>
     ensures { result ≡ bad_level level backends.now rows.now }
 {
@@ -180,7 +180,7 @@ fn refused_by_level(level: Level, backends: &[Name], rows: &[PlaceRow]) -> Optio
     }
 }
 
-/// Why the rows make no placement, if they don't.
+/// Why the rows make no placement of this level over the backends; `None` if they do.
 pub fn refusal(
     alloc: Global,
     level: Level,

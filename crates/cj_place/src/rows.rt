@@ -37,7 +37,7 @@ fn place_in(names: &[Name], name: &Name) -> Option<usize>
     names.iter().position(|n| n.is(name))
 }
 
-/// The number of the backend of a name.
+/// The number of the backend with this name, if there is one.
 pub fn number_of(names: &[Name], name: &Name) -> Option<u8>
     requires { length names.now ≤ BACKEND_LIMIT }
     ensures { result ≡ position (λ n. bytes_eq n name.now) names.now }
@@ -78,7 +78,7 @@ fn host_row(names: &[Name], given: PlaceRow) -> HostRow
     HostRow { given, mask }
 }
 
-/// The rows by the bytes of their table's name, with their masks.
+/// A map of the rows with their masks, in the order of their tables' names.
 fn rows_by_table(
     alloc: Global,
     names: &[Name],
@@ -110,7 +110,7 @@ pub fn host_rows(alloc: Global, names: &[Name], rows: PlaceRows) -> Result<Vec<H
     Ok(made)
 }
 
-/// The row of a table, by halves.
+/// The row of a table, by binary search.
 fn find_row<'a>(rows: &'a [HostRow], table: &Name) -> Option<&'a HostRow>
     requires { Rises by_row (map (λ row. row.given) rows.now) }
     ensures { option_copied result ≡ find (λ row. bytes_eq row.given.table table.now) rows.now }
@@ -127,7 +127,7 @@ fn find_row<'a>(rows: &'a [HostRow], table: &Name) -> Option<&'a HostRow>
     }
 }
 
-/// The mask of the row of a table, or 0 where there is no such row.
+/// The mask of the row of a table; 0 if there is no such row.
 pub fn mask_at(rows: &[HostRow], table: &Name) -> u32
     requires { Rises by_row (map (λ row. row.given) rows.now) }
     ensures { result ≡ mask_in rows.now table.now }
@@ -138,7 +138,7 @@ pub fn mask_at(rows: &[HostRow], table: &Name) -> u32
     }
 }
 
-/// Whether some mask has the backend and not the other.
+/// Whether the mask of some row has backend `b` and not backend `other`.
 pub fn has_beyond(rows: &[HostRow], b: u8, other: u8) -> bool
     requires backend { b < 32 }
     requires other { other < 32 }

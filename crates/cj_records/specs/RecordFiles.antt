@@ -15,7 +15,7 @@ front_bytes magic bodies = magic ++ flat_map record_bytes bodies
 abbrev pub HasLength : List ℕ → Type 0
 HasLength body = length body < 2 ^ 64
 
--- The bytes are the magic, the records of these bodies, and then the rest, at whose front a gate should stand.
+-- The bytes are the magic, the records of these bodies, and then the rest, at whose front a gate should be.
 pub record StartsWithRecords (magic bytes : List ℕ) (bodies : List (List ℕ)) (rest : List ℕ) : Type 0 where
   pub whole : bytes ≡ front_bytes magic bodies ++ rest
   pub each : AllByRecursion HasLength bodies

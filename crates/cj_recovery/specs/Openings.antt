@@ -17,11 +17,11 @@ use Rattle.cj_log.specs.declared.item.LogItem.TheVariants as items
 abbrev pub entry_item : ℕ → Entry → LogItem
 entry_item n e = items.Entry (record { number = n; session = e.session; seq = e.seq; tx = e.tx; user = e.user; text = canonical (request_of e.act) })
 
--- a marker behind n entries as an item
+-- a marker after n entries as an item
 abbrev pub marker_item : ℕ → List ℕ → Option ℕ → LogItem
 marker_item n name b = items.Marker (record { after = n; name = name; b = b })
 
--- the items of events that come behind n entries
+-- the items of events that come after n entries
 abbrev pub items_behind : ℕ → List Event → List LogItem
 items_behind n [] = []
 items_behind n (Sched e ∷ h) = entry_item (n + 1) e ∷ items_behind (n + 1) h
@@ -38,20 +38,20 @@ items_of h = items_behind 0 h
 
 -- ---- the history that a log opens with
 
--- each event is an entry that ended at once, at no backend's cost, or a marker
+-- the history consists of entries that ended at once, in which no backend failed, and of markers
 abbrev pub IsOpening : List Event → Type 0
 IsOpening [] = Unit {0}
 IsOpening (Sched e ∷ Ended failed starved ∷ h) = (failed ≡ 0) × (starved ≡ 0) × IsOpening h
 IsOpening (Marker name b ∷ h) = IsOpening h
 IsOpening _ = ⊥
 
--- the history that a log with these items opens with
+-- a log with these items opens with this history
 pub record OpensTo (items : List LogItem) (h : List Event) : Type 0 where
   pub legal : IsLegal h
   pub opening : IsOpening h
   pub same : items_of h ≡ items
 
--- The items are those of a log up to what should be entry n, or a marker before it, and with that one they are no log's.
+-- The items open up to what should be entry n, or a marker before it, and with that one to no history.
 pub record HasBadEntry (items : List LogItem) (n : ℕ) : Type 0 where
   pub before : List LogItem
   pub item : LogItem
@@ -72,6 +72,6 @@ ItemsFixTheOpening = (items : List LogItem) (a b : List Event) → OpensTo items
 abbrev pub OpeningsAreGood : Type 0
 OpeningsAreGood = (items : List LogItem) (h : List Event) (n : ℕ) → OpensTo items h → HasBadEntry items n → ⊥
 
--- and a bad entry has one number
+-- items have one bad entry at most
 abbrev pub OneBadEntry : Type 0
 OneBadEntry = (items : List LogItem) (m n : ℕ) → HasBadEntry items m → HasBadEntry items n → m ≡ n

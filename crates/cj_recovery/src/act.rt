@@ -40,7 +40,7 @@ fn act_of(request: Request) -> Option<Act>
     }
 }
 
-/// The canonical text of an act.
+/// Writes the canonical text of an act; fails if memory runs out.
 pub fn write_act(alloc: Global, act: &Act) -> Result<Text, NoMemory>
     ensures { IfOk result (λ text. text ≡ canonical (plain.request_of act.now)) }
 {
@@ -48,7 +48,7 @@ pub fn write_act(alloc: Global, act: &Act) -> Result<Text, NoMemory>
     write_sql(alloc, &request)
 }
 
-/// Whether the text is the canonical one of the request.
+/// Whether the text is the canonical text of the request.
 fn is_canonical(alloc: Global, text: &Text, request: &Request) -> Result<bool, NoMemory>
     ensures { IfOk result (λ is. IsTrue is ↔ (text.now ≡ canonical request.now)) }
 {
@@ -56,7 +56,7 @@ fn is_canonical(alloc: Global, text: &Text, request: &Request) -> Result<bool, N
     Ok(text.is_same(&written))
 }
 
-/// The act of a text that reads as this request, where the text is the act's.
+/// The act of a text that reads as this request; `None` if the text isn't the act's canonical one.
 fn find_act(alloc: Global, text: &Text, request: Request) -> Result<Option<Act>, NoMemory>
     requires { TextReadsAs text.now request }
     ensures { IfOk result (FindsAct text.now) }
@@ -70,7 +70,7 @@ fn find_act(alloc: Global, text: &Text, request: Request) -> Result<Option<Act>,
     Ok(None)
 }
 
-/// The act whose canonical text this is, or none.
+/// Reads the act whose canonical text this is; `None` exactly if it is that of no act.
 pub fn read_act(alloc: Global, text: &Text) -> Result<Option<Act>, NoMemory>
     ensures { IfOk result (FindsAct text.now) }
 {

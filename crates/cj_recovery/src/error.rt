@@ -1,13 +1,13 @@
-//! Why items are no history's.
+//! Why no history has these items.
 
 use cj_model::NoMemory;
 use std::alloc::AllocFailed;
 use thiserror::Error;
 
-/// Why items of a log are no history's.
+/// Why no history has these items of a log.
 #[derive(Clone, Copy, Debug, PartialEq, Eq, Error)]
 pub enum OpeningError {
-    /// The item that should have been entry `n`, or a marker before it, is none.
+    /// The item that should be entry `n`, or a marker before it, can't come next.
     #[error("entry {0} of the log is none")]
     BadEntry(u64),
     #[error("out of memory")]

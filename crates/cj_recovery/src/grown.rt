@@ -24,19 +24,19 @@ use cj_model::{Act, Duplicate, Entry, NoMemory, REQUEST_LIMIT, SESSION_NUMBER_LI
 use std::alloc::Global;
 use std::collections::{BTreeMap, BTreeSet};
 
-/// The history that the items so far open with, and what is kept of it: no call walks over the history.
+/// The history that the items so far open with, and what is known of it, so that no call walks over it.
 #[derive(Drop)]
 pub struct Grown {
     alloc: Global,
     pub events: Vec<Event>,
-    /// The places of the entries in the history.
+    /// The index of each entry's event in the history.
     places: Vec<usize>,
     sessions: BTreeMap<u64, SessionSoFar>,
     /// The names of the markers.
     names: BTreeSet<MarkerName>,
 }
 
-/// The entry that the event at a place scheduled.
+/// The entry that the event at an index scheduled; `None` if that event is another, or not there.
 pub fn entry_at(events: &[Event], place: usize) -> Option<&Entry>
     ensures { option_copied result ≡ option_and_then scheduled_entry (slice_get events.now place) }
 {
@@ -47,7 +47,7 @@ pub fn entry_at(events: &[Event], place: usize) -> Option<&Entry>
 }
 
 impl Grown {
-    /// No events.
+    /// The empty history.
     pub fn new(alloc: Global) -> Grown
         ensures none { result.events.items ≡ [] }
         ensures keeps { Keeps result.events.items result.places.items result.sessions result.names }
@@ -79,7 +79,7 @@ impl Grown {
         entry_at(&self.events, *place)
     }
 
-    /// The entry of a number.
+    /// The entry with this number, counted from 1.
     fn entry(&self, number: u64) -> Option<&Entry>
         requires { Keeps self.now.events.items self.now.places.items self.now.sessions self.now.names }
         ensures { option_copied result ≡ entry_numbered (log self.now.events.items) number }
@@ -113,7 +113,7 @@ impl Grown {
             && fits_tx(session.tx, entry.tx, &entry.act)
     }
 
-    /// Whether this entry began the open transaction of its session, for this user.
+    /// Whether `begin` began the transaction that `entry` ends: open in its session, and by the same user.
     fn began(&self, begin: &Entry, entry: &Entry) -> bool
         requires { Keeps self.now.events.items self.now.places.items self.now.sessions self.now.names }
         ensures { IsTrue result ↔ keeping.Began (log self.now.events.items) begin.now entry.now }
@@ -135,7 +135,7 @@ impl Grown {
         }
     }
 
-    /// The next entry, where the item is one.
+    /// The entry that the item is, if it may come next; else `None`.
     fn next_entry(&self, item: &LogEntry) -> Result<Option<Entry>, NoMemory>
         requires keeps { Keeps self.now.events.items self.now.places.items self.now.sessions self.now.names }
         requires item { IsEntry item.now }
@@ -163,7 +163,7 @@ impl Grown {
 }
 
 impl Grown {
-    /// Whose transaction an entry is about.
+    /// The session whose transaction an entry is about: its own, or for an administrator's end the one that began it.
     fn owner(&self, entry: &Entry) -> u64
         requires { Keeps self.now.events.items self.now.places.items self.now.sessions self.now.names }
         ensures { result ≡ keeping.owner_of (log self.now.events.items) entry.now }
@@ -177,7 +177,7 @@ impl Grown {
         }
     }
 
-    /// What is known of the owner of the transaction once the entry came.
+    /// What is known of the transaction's owner after the entry.
     fn session_behind(&self, owner: u64, entry: &Entry) -> SessionSoFar
         requires keeps { Keeps self.now.events.items self.now.places.items self.now.sessions self.now.names }
         requires fit { IsFitEntry (log self.now.events.items) entry.now }
@@ -195,7 +195,7 @@ impl Grown {
         }
     }
 
-    /// Follows the sessions where this entry comes next.
+    /// Changes what is known of sessions by the entry that comes next.
     fn follow(&mut self, entry: &Entry) -> Result<(), NoMemory>
         requires keeps { Keeps self.old.events.items self.old.places.items self.old.sessions self.old.names }
         requires fit { IsFitEntry (log self.old.events.items) entry.now }
@@ -210,7 +210,7 @@ impl Grown {
         Ok(())
     }
 
-    /// Adds the next entry, which ended at once.
+    /// Adds the events of the next entry: it was scheduled, and ended at once.
     fn add_entry(&mut self, entry: Entry) -> Result<(), NoMemory>
         requires keeps { Keeps self.old.events.items self.old.places.items self.old.sessions self.old.names }
         requires fit { IsFitEntry (log self.old.events.items) entry }
@@ -228,7 +228,7 @@ impl Grown {
         Ok(())
     }
 
-    /// Adds the entry that the item is.
+    /// Adds the events of the entry that the item is. `BadEntry` comes exactly if it can't come next.
     fn add_entry_of(&mut self, item: &LogEntry) -> Result<(), OpeningError>
         requires keeps { Keeps self.old.events.items self.old.places.items self.old.sessions self.old.names }
         requires item { IsEntry item.now }
@@ -246,7 +246,7 @@ impl Grown {
         }
     }
 
-    /// Adds the marker that the item is.
+    /// Adds the event of the marker that the item is. `BadEntry` comes exactly if it can't come next.
     fn add_marker_of(&mut self, item: &LogMarker) -> Result<(), OpeningError>
         requires keeps { Keeps self.old.events.items self.old.places.items self.old.sessions self.old.names }
         ensures brings { OnOk result (AddsItem self.old.events.items (items.Marker item.now) self.new.events.items) }
@@ -265,7 +265,8 @@ impl Grown {
         Ok(())
     }
 
-    /// Adds the events that the item brings, or refuses it where it can't come next.
+    /// Adds the events that the item brings. `BadEntry`, with the number of the next entry, comes exactly if the item
+    /// can't come next. After an error nothing is known of the history.
     pub fn add(&mut self, item: &LogItem) -> Result<(), OpeningError>
         requires keeps { Keeps self.old.events.items self.old.places.items self.old.sessions self.old.names }
         requires item { IsItem item.now }

@@ -11,8 +11,10 @@ use cj_cluster::Event;
 use cj_log::LogItem;
 use std::alloc::Global;
 
-/// The history that the items of a log open with. `BadEntry` comes exactly where they are no history's
-/// (`openings_are_good`).
+/// Answers the history that the items of a log open with. There are fewer than 2^59 items.
+///
+/// `BadEntry` comes exactly if no history has these items (`openings_are_good`), with the number of the entry that
+/// should come where the first bad item is.
 pub fn opening(alloc: Global, items: &[LogItem]) -> Result<Vec<Event>, OpeningError>
     requires each { AllByRecursion IsItem items.now }
     requires few { length items.now < 2 ^ 59 }

@@ -1,4 +1,4 @@
-//! An entry as an item.
+//! An entry as an item of the log.
 
 ghost use Rattle.std.specs.Prelude.{◌≡◌, ◌≤◌, length, IfOk};
 ghost use Rattle.cj_model.specs.Sql.PlainRequests.{request_of};
@@ -11,7 +11,7 @@ use cj_log::{LogEntry, LogItem};
 use cj_model::{Duplicate, Entry, NoMemory, USER_LIMIT};
 use std::alloc::Global;
 
-/// Entry `number` of the log as an item, to be appended.
+/// Writes entry `number` of the log as an item that may be appended; fails if memory runs out.
 pub fn entry_item(alloc: Global, number: u64, entry: &Entry) -> Result<LogItem, NoMemory>
     requires written { IsWritten (request_of entry.now.act) }
     requires short { length entry.now.user ≤ USER_LIMIT }

@@ -7,7 +7,7 @@ pub fn items_fix_the_opening()
     ensures { ItemsFixTheOpening }
 {}
 
-/// Items that open have no bad entry, and others have one at most: so `opening` answers `BadEntry n` exactly of those.
+/// Items that open have no bad entry, and others have one at most. So `opening` answers `BadEntry` only of others.
 pub fn openings_are_good()
     ensures good { OpeningsAreGood }
     ensures one { OneBadEntry }

@@ -9,13 +9,13 @@ use cj_model::Act;
 /// What is known of a session by its entries so far.
 #[derive(Clone, Copy)]
 pub struct SessionSoFar {
-    /// The least number that its next request may have.
+    /// The least number that the next request of the session may have.
     pub next: u64,
-    /// Its open transaction, or 0.
+    /// The open transaction of the session, or 0.
     pub tx: u64,
 }
 
-/// Whether an act may have the transaction `tx`, where the open one of its session is `open_tx`.
+/// Whether an act may have the transaction `tx`, if the open one of its session is `open_tx`; 0 is none.
 pub fn fits_tx(open_tx: u64, tx: u64, act: &Act) -> bool
     ensures { IsTrue result ↔ FitsTx open_tx tx act.now }
 {

@@ -30,7 +30,7 @@ use Rattle.cj_tally.specs.declared.tally.Tally.{Tally}
 abbrev pub no_reports : Tally
 no_reports = record { taken = 0; failed = 0; starved = 0; first_outcome = None }
 
--- the backends that took the entry, after backend b did this with it
+-- the mask of the backends that applied or skipped the entry, after backend b did this with it
 abbrev pub taken_after : ℕ → ℕ → Did → ℕ
 taken_after mask b (did.Done o) = with_backend mask b
 taken_after mask b did.Skipped = with_backend mask b
@@ -56,7 +56,7 @@ with_report t b d = record {
 
 -- ---- right reports
 
--- the outcome is one that an entry may come to, and that of entry i on the one database where the backends tell what they hold
+-- the outcome is one that an entry may have; if the backends tell what they hold, that of entry i on the one database
 abbrev pub IsRightOutcome : Bool → List Entry → ℕ → Outcome → Type 0
 IsRightOutcome tells entries i o = IsOutcome o × (tells ≡ true → outcome_of entries i ≡ Some o)
 
@@ -67,24 +67,24 @@ IsReportOf tells p entries i e b did.Skipped = takes_part p b [] e.tx e.act ≡ 
 IsReportOf tells p entries i e b did.Failed = Unit {0}
 IsReportOf tells p entries i e b did.Starved = Unit {0}
 
--- the tally is of entry i: its first outcome is right, and is there as soon as a backend that hosts the entry's table took it
+-- the tally is of entry i: its first outcome is right, and there once a backend with a part in it applied the entry
 pub record IsTallyOf (tells : Bool) (p : Placement) (entries : List Entry) (i : ℕ) (e : Entry) (t : Tally) : Type 0 where
   pub right : (o : Outcome) → t.first_outcome ≡ Some o → IsRightOutcome tells entries i o
   pub whole : (b : ℕ) → in_mask t.taken b ≡ true → takes_part p b [] e.tx e.act ≡ true → IsSome t.first_outcome
 
 -- ---- the answer
 
--- the entry has targets, and each of them failed or wanted memory
+-- the entry has targets, and each of them failed or ran out of memory
 pub record IsUnfinished (t : Tally) (targets : ℕ) : Type 0 where
   pub some : (b : ℕ) × (in_mask targets b ≡ true)
   pub all : (b : ℕ) → in_mask targets b ≡ true → (in_mask t.failed b ≡ true) ⊎ (in_mask t.starved b ≡ true)
 
--- the refusal of such an entry
+-- the refusal of an entry whose targets all failed or ran out of memory: UNFINISHED if any failed, else STARVED_ALL
 abbrev pub RefusesEntry : ℕ → ℕ → Refusal → Type 0
 RefusesEntry failed starved refusal =
     ((failed ≢ 0) × (refusal ≡ record { code = UNFINISHED; a = failed; b = starved })) ⊎ ((failed ≡ 0) × (refusal ≡ record { code = STARVED_ALL; a = 0; b = starved }))
 
--- an outcome that was given; an entry in which no backend had a part is done
+-- the outcome that was given, or Done 0 if no backend had a part in the entry
 abbrev pub outcome_or_done : Option Outcome → Outcome
 outcome_or_done None = outcome.Done 0
 outcome_or_done (Some o) = o
@@ -102,7 +102,8 @@ AreTargets p h e targets = (b : ℕ) → (in_mask targets b ≡ true → IsTarge
 abbrev pub HaveReported : ℕ → Tally → Type 0
 HaveReported targets t = (b : ℕ) → in_mask targets b ≡ true → (in_mask t.taken b ≡ true) ⊎ (in_mask t.failed b ≡ true) ⊎ (in_mask t.starved b ≡ true)
 
--- Each target of an entry that is open and served has reported, and rightly: the entry is answered so once it ends with the masks of the tally.
+-- If each target of an open and served entry has reported, and rightly, this reply is the entry's,
+-- once it ends with the masks of the tally.
 abbrev pub AnswersByTally : Tally → ℕ → Reply → Type 0
 AnswersByTally t targets reply =
     (tells : Bool) (p : Placement) (h : List Event) (e : Entry) → open_entry_of h ≡ Some e → HasServer p h (request_of e.act) → AreTargets p h e targets → HaveReported targets t → IsTallyOf tells p (log h) (ended_count h) e t

@@ -11,13 +11,13 @@ use cj_model::{Outcome, Refusal, Reply, STARVED_ALL, UNFINISHED, with_bit};
 /// What the backends have reported of the open entry. A mask has bit b for backend b.
 #[derive(Clone, Copy)]
 pub struct Tally {
-    /// The backends that took the entry: they carried it out, or have no part in it.
+    /// The backends that applied the entry, or skipped it because they have no part in it.
     pub taken: u32,
-    /// The backends that failed in it.
+    /// The backends that failed in the entry.
     pub failed: u32,
-    /// The backends that wanted memory for it.
+    /// The backends that ran out of memory in the entry.
     pub starved: u32,
-    /// The outcome that the first backend gave.
+    /// The outcome of the first backend that gave one.
     pub first_outcome: Option<Outcome>,
 }
 
@@ -53,7 +53,7 @@ impl Tally {
         }
     }
 
-    /// Backend `b` took the entry, and this came of it. The outcome of the first that gave one stays.
+    /// Adds the report of backend `b`, which is below 32. The outcome of the first backend that gave one stays.
     pub fn took(&mut self, b: u8, did: Did)
         requires { b < 32 }
         ensures report { self.new ≡ with_report self.old b did }
@@ -70,8 +70,10 @@ impl Tally {
         }
     }
 
-    /// What the entry's session is answered, where the entry has these targets: that each of them failed or wanted
-    /// memory, or else the first outcome. `Done(0)` is the outcome of an entry in which no backend had a part.
+    /// The reply to the session of an entry with these targets, each of which has reported.
+    ///
+    /// If there are targets, and each failed or ran out of memory, the reply is that refusal. Else it is the first
+    /// outcome, or `Done(0)` for an entry in which no backend had a part.
     pub fn reply(self, targets: u32) -> Reply
         ensures reply { RepliesTo self targets result }
         ensures answers { AnswersByTally self targets result }

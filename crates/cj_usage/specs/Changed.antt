@@ -1,4 +1,4 @@
--- What an entry of the log is of.
+-- The table that an entry of the log changes.
 use Rattle.std.specs.Prelude.{ℕ, List}
 use Rattle.std.specs.declared.option.Option.{Option}
 use Rattle.std.specs.declared.option.Option.TheVariants.{None, Some}
@@ -6,7 +6,7 @@ use Rattle.cj_model.specs.declared.request.Act.{Act}
 use Rattle.cj_model.specs.declared.request.Act.TheVariants as act
 use Rattle.cj_model.specs.Database.Steps.{table_written}
 
--- the table that a write, CREATE or DROP is of
+-- the table that a write, CREATE or DROP changes; none for other acts
 abbrev pub table_changed : Act → Option (List ℕ)
 table_changed act.Begin = None
 table_changed (act.Write w) = Some (table_written w)

@@ -28,7 +28,7 @@ fn set_of(alloc: Global, names: &[Name]) -> Result<TableSet, NoMemory>
     Ok(set)
 }
 
-/// The set of one table.
+/// The set of this one table; fails if memory runs out.
 pub fn lone(alloc: Global, name: &Name) -> Result<TableSet, NoMemory>
     ensures { IfOk result (λ set. set ≡ put_by name_cmp [] name.now) }
 {
@@ -37,7 +37,7 @@ pub fn lone(alloc: Global, name: &Name) -> Result<TableSet, NoMemory>
     Ok(set)
 }
 
-/// The tables that a request names; none for BEGIN, COMMIT and ROLLBACK.
+/// The set of tables that a request names, empty for BEGIN, COMMIT and ROLLBACK. Fails if memory runs out.
 pub fn needs(alloc: Global, r: &Request) -> Result<TableSet, NoMemory>
     ensures { IfOk result (λ set. set ≡ fold (put_by name_cmp) [] (placements.needs r.now)) }
 {
@@ -52,7 +52,7 @@ pub fn needs(alloc: Global, r: &Request) -> Result<TableSet, NoMemory>
     }
 }
 
-/// The table that a write, CREATE or DROP is of; none for the other acts.
+/// The table that an act changes: a write, CREATE or DROP. `None` for the other acts.
 pub fn written(a: &Act) -> Option<&Name>
     ensures { option_copied result ≡ table_changed a.now }
 {

@@ -1,4 +1,5 @@
--- What a step at a word tells the seat that makes it. `st` is the step, `m` the seat before, `n` the number found and `m'` the seat after.
+-- What a step at a word tells the seat that makes it. `st` is the step, `m` the seat before, `n` the number found,
+-- and `m'` the seat after.
 use Rattle.std.specs.Prelude.{◌≡◌, ◌≢◌, ℕ, ◌+◌, ◌*◌, ◌<◌, ◌≤◌, Contains}
 use mathlib.Core.Option.{some}
 use mathlib.Core.List.{IsPrefix}
@@ -36,11 +37,11 @@ ToldStoredFaults st m n m' = (b : ℕ) → st.word ≡ 2 * b + 2 → m' ≡ (wit
 abbrev pub ToldFaults : StepNow → SeatNow → ℕ → SeatNow → Type 0
 ToldFaults st m n m' = (m' ≡ m) × (n ≡ m.0.faults)
 
--- the fronts of the last join begin the front, which is legal; and the book gave each session whose count it has noted
+-- the fronts of the last join begin the front, which is legal; the book gave each session whose count it has noted
 abbrev pub ToldFronts : StepNow → SeatNow → ℕ → SeatNow → Type 0
 ToldFronts st m n m' = (m' ≡ m) × IsPrefix m.0.front_before m.0.front × IsPrefix m.0.front_joined m.0.front × IsLegal m.0.front × (IsBook m.0.role → (s k : ℕ) → Contains m.0.count_notes (s, k) → s ≤ m.0.last_given)
 
--- what the rule says of backend b, at its cell's seat: the faults that are noted of it, and where it stands
+-- what the rule says of backend b, at its cell's seat: the faults that are noted of it, and its position
 pub record ToldOfCell (b : ℕ) (v : SeatView) : Type 0 where
   pub faults : (n : ℕ) → Contains v.fault_notes (b, n) → n ≤ v.faults
   pub within : IsInLog (role_position v.role) v.front

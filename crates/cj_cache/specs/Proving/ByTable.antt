@@ -14,7 +14,7 @@ use Rattle.cj_model.specs.Proving.SameStatements.{same_statement}
 abbrev pub is_due : List (List ℕ) → List Cached → Select → Bool
 is_due set entries s = needs_one_of set s && is_some (cached_entry s entries)
 
--- statements by tables, where S and T tell the hashers
+-- statements by tables; S and T are the types of the hashers
 abbrev pub ByTable : Type 0 → Type 0 → Type 0
 ByTable S T = HashMap (List ℕ) (HashSet Select S) T
 
@@ -30,11 +30,11 @@ module _ {S T : Type 0} where
   abbrev pub IsListed : ByTable S T → Cached → Type 0
   IsListed m e = All (λ table. lists m table e.select ≡ true) e.select.tables
 
-  -- each entry's is
+  -- each entry's statement is listed under each of its tables
   unfoldable pub AreListed : ByTable S T → List Cached → Type 0
   AreListed m entries = All (IsListed m) entries
 
-  -- of the statements with P, what was listed still is
+  -- each statement with P is still listed where it was
   abbrev pub StillLists : (Select → Type 0) → ByTable S T → ByTable S T → Type 0
   StillLists P m n = (table : List ℕ) (s : Select) → P s → lists m table s ≡ true → lists n table s ≡ true
 

@@ -42,7 +42,7 @@ pub record Finished (tells : Bool) (p : Placement) (then h : List Event) (i : �
   pub says : tells ≡ true → outcome_of (log h) i ≡ Some outcome
   pub replied : reply ≡ outcome_reply outcome
 
--- each target of entry i, and there is one, is in a mask of its end
+-- entry i has targets, and each of them is in a mask of its end
 pub record Unfinished (p : Placement) (then h : List Event) (i : ℕ) (e : Entry) (reply : Reply) : Type 0 where
   pub failed : ℕ
   pub starved : ℕ

@@ -1,4 +1,5 @@
--- How long a kept answer stays right: which tables the entries of a log touch, and which answers are fresh. Entries are counted from 0, as in a history.
+-- How long a kept answer stays right: which tables the entries of a log touch, and which answers are fresh.
+-- Entries are counted from 0, as in a history.
 use Rattle.std.specs.Prelude.{◌≡◌, ◌⊎◌, ℕ, ◌<◌, ◌≤◌, Bool, true, false, not, ◌&&◌, ◌==◌, List, [], ◌∷◌, ◌++◌, length, take, filter, slice_get, All}
 use Rattle.std.specs.List.{list_any}
 use Rattle.std.specs.Option.{option_map_or}
@@ -19,8 +20,9 @@ use Rattle.cj_cluster.specs.History.Transactions.{has_written}
 
 -- ---- which tables an entry touches
 
--- Whether an act of a transaction (0 is none), behind the entries before it, touches a table: it writes the table outside transactions, creates or drops it, or commits a transaction that wrote it.
--- This goes by the statement alone: one that is refused, as the CREATE of a table that is there or the DROP of one that is not, changes nothing and touches its table all the same.
+-- Whether an act of a transaction (0 is none), after these entries, touches (invalidates) a table:
+-- it writes the table outside transactions, creates or drops it, or commits a transaction that wrote it.
+-- A refused statement, such as the CREATE of a table that is there, changes nothing and touches its table too.
 abbrev pub touches_behind : List Entry → ℕ → Act → List ℕ → Bool
 touches_behind before tx act.Begin table = false
 touches_behind before tx (act.Write w) table = tx == 0 && bytes_eq (table_written w) table
@@ -37,17 +39,18 @@ touches entries n table = option_map_or (λ (e : Entry). touches_behind (take n 
 abbrev pub touches_query : List Entry → ℕ → Select → Bool
 touches_query entries n s = list_any (touches entries n) s.tables
 
--- none of the entries from the one position to the other touches a table that the query needs
+-- no entry from one position to another touches a table that the query needs
 abbrev pub NoneTouches : List Entry → ℕ → ℕ → Select → Type 0
 NoneTouches entries from to s = (n : ℕ) → from ≤ n → n < to → touches_query entries n s ≡ false
 
 -- ---- fresh answers
 
--- this is what the query is answered, outside transactions, on the database after so many entries
+-- this is the answer to the query, outside transactions, on the database after n entries
 abbrev pub IsAnswerAt : List Entry → ℕ → Select → Asked → Type 0
 IsAnswerAt entries n s asked = asked ≡ ask (database_after entries n) 0 s
 
--- A kept answer is fresh: it is one that a database may give, and was right at its position, which the log has reached, where the backends tell what they hold (`tells`); and no entry behind that touches a table that its query needs.
+-- A kept answer is fresh: one that a database may give, at a position that the log has reached, and since then no
+-- entry touched a table that its query needs. If the backends tell what they hold (`tells`), it was right there.
 pub record IsFreshAnswer (tells : Bool) (entries : List Entry) (kept : Cached) : Type 0 where
   pub possible : IsAnswer kept.answer
   pub within : kept.at ≤ length entries
@@ -60,10 +63,10 @@ IsFreshCache tells entries c = All (IsFreshAnswer tells entries) c.entries
 
 -- ---- a cache along a log
 
--- the cache behind one more entry: the answers are dropped whose queries need a table that the entry touches
+-- the cache after one more entry: the answers whose queries need a table that the entry touches are dropped
 abbrev pub without_touched : List Entry → Entry → CacheState → CacheState
 without_touched entries e c = record c { entries = filter (λ (kept : Cached). not (list_any (touches_behind entries e.tx e.act) kept.select.tables)) c.entries }
 
--- the cache where the log has grown by nothing, or by one entry
+-- the log is as before, and so is the cache; or the log has one more entry, whose tables are dropped from the cache
 abbrev pub FollowsLog : List Entry → List Entry → CacheState → CacheState → Type 0
 FollowsLog before now old new = ((now ≡ before) × (new ≡ old)) ⊎ ((e : Entry) × (now ≡ before ++ e ∷ []) × (new ≡ without_touched before e old))

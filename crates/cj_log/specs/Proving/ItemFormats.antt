@@ -75,13 +75,13 @@ item = behind byte kind_of fields_of
 
 -- ---- reading
 
--- what an error of the codec is here
+-- the error of reading an item, for an error of the codec
 abbrev pub item_error : CodecError → ItemError
 item_error (codec.Cut n) = errors.NoItem
 item_error (codec.BadField n) = errors.NoItem
 item_error codec.NoMemory = errors.NoMemory
 
--- the item whose body this is, or that it is the body of none, unless memory ran out
+-- the answer is the item whose body this is, or that no item has it, unless memory ran out
 abbrev pub FindsItem : List ℕ → Result LogItem ItemError → Type 0
 FindsItem body (Ok x) = (body ≡ item_bytes x) × IsItem x
 FindsItem body (Err errors.NoItem) = IsNoItem body
@@ -89,7 +89,7 @@ FindsItem body (Err errors.NoMemory) = Unit {0}
 
 -- ---- the items of bodies
 
--- what was read, or any item where none was
+-- the item that was read, or any item if none was
 abbrev pub item_found : Result (LogItem × List ℕ) Fault → LogItem
 item_found (Ok (x, rest)) = x
 item_found (Err fault) = Marker (record { after = 0; name = []; b = None })

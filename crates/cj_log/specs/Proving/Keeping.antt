@@ -1,4 +1,4 @@
--- What holds of the fields of a log, and what its steps come to.
+-- What holds of the fields of a log, and the results of its steps.
 use Rattle.std.specs.Prelude.{◌≡◌, ℕ, Bool, true, List, Result, Ok, Err}
 use Rattle.std.specs.List.{AllByRecursion}
 use Rattle.std.specs.Global.{Vec}
@@ -11,7 +11,7 @@ use Rattle.cj_log.specs.declared.item.LogItem.{LogItem}
 use Rattle.cj_log.specs.Items.{item_bytes, IsItem}
 use Rattle.cj_log.specs.Logs.{log_magic, bodies_of, BadIn}
 
--- this is the body of an item
+-- the bytes are the body of an item
 abbrev pub IsBody : List ℕ → Type 0
 IsBody body = (item : LogItem) × IsItem item × (item_bytes item ≡ body)
 
@@ -28,7 +28,7 @@ log_error_of errors.NoMemory = log_errors.NoMemory
 log_error_of errors.Failed = log_errors.Failed
 log_error_of (errors.BadRecord _) = log_errors.Failed
 
--- the items of these bodies, or the first body that is none
+-- the items of these bodies, or the offset of the first body that is no item's
 abbrev pub ItemsOf : List (List ℕ) → Result (Vec LogItem) RecordsError → Type 0
 ItemsOf list (Ok items) = list ≡ bodies_of items.items
 ItemsOf list (Err (errors.BadRecord offset)) = BadIn list offset

@@ -74,7 +74,7 @@ leave_group scope group All = true
 leave_group scope group (Listed items) = list_any (is_outside_group scope group) items
 
 -- With GROUP BY, a column other than the group's is asked for or ordered by.
--- Without it, counts or sums stand beside plain columns or are ordered.
+-- Without GROUP BY, counts or sums are mixed with plain columns, or are ordered.
 abbrev pub has_bad_columns : Scope → Items → List Key → Option ColRef → Bool
 has_bad_columns scope items keys (Some group) = leave_group scope group items || list_any (λ (k : Key). not (is_same_column scope group k.col)) keys
 has_bad_columns scope items keys None = has_aggregate items && (list_any is_plain_item (items_listed items) || not (length keys == 0))

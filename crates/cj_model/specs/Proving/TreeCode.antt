@@ -1,4 +1,5 @@
--- A code for trees of NOT, AND and OR, by which a proof tells them apart: prefix notation, from which a stack builds them again.
+-- A code for trees of NOT, AND and OR, by which a proof tells them apart: prefix notation, from which a stack builds
+-- them again.
 use Rattle.std.specs.Prelude.{◌≡◌, ◌⊎◌, ℕ, zero, suc, List, [], ◌∷◌, ◌++◌, refl}
 use Rattle.std.proofs.Common.{inl, inr, ap, ◌∙◌, sym, append_assoc}
 use Rattle.std.proofs.lemmas.List.{append-nil}

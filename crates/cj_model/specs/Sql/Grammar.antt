@@ -230,7 +230,7 @@ pub record SelectFits (s : SelectForm) : Type 0 where
   pub cond : WhereFits s.cond
   pub order : length s.order ≤ KEY_LIMIT
   pub limit : LimitFits s.limit
-  -- COUNT, SUM and GROUP BY stand only where FROM names one table
+  -- COUNT, SUM and GROUP BY are allowed only if FROM names one table
   pub alone : is_aggregate_query s.items s.group ≡ true → length s.tables ≡ 1
 
 abbrev pub StatementFits : Statement → Type 0

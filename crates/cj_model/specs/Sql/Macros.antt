@@ -1,5 +1,5 @@
 -- Calls of clock and random numbers: the draws that a request asks for, and the request with values for the calls.
--- NOW() stands for one moment. Each RAND(n) stands for a draw of its own from 0 to n - 1. Draws stand in text order.
+-- Each NOW() is replaced by one moment, and each RAND(n) by a draw of its own from 0 to n - 1, in text order.
 use Rattle.std.specs.Prelude.{ℕ, ℤ, pos, negsuc, ◌<◌, ◌^◌, List, [], ◌∷◌, ◌++◌, All, drop, flat_map, fold, length, take}
 use Rattle.std.specs.declared.option.Option.{Option}
 use Rattle.std.specs.declared.option.Option.TheVariants.{None, Some}

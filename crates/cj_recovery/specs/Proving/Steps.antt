@@ -22,22 +22,22 @@ pub record IsTextOf (text : List ℕ) (a : Act) : Type 0 where
   pub written : IsWritten (request_of a)
   pub canonical : text ≡ canonical (request_of a)
 
--- the act whose text this is, or that it is the text of none
+-- the answer is the act whose text this is, or that it is the text of none
 abbrev pub FindsAct : List ℕ → Option Act → Type 0
 FindsAct text None = (a : Act) → IsTextOf text a → ⊥
 FindsAct text (Some a) = IsTextOf text a
 
--- behind the history, the item is this entry
+-- after this history the item is this entry, which may come next
 pub record IsNextEntry (h : List Event) (x : LogEntry) (e : Entry) : Type 0 where
   pub is : items.Entry x ≡ entry_item (length (log h) + 1) e
   pub fit : IsFitEntry (log h) e
 
--- the entry that the item is, or that it is none
+-- the answer is the entry that the item is, or that it is none
 abbrev pub FindsEntry : List Event → LogEntry → Option Entry → Type 0
 FindsEntry h x None = (e : Entry) → IsNextEntry h x e → ⊥
 FindsEntry h x (Some e) = IsNextEntry h x e
 
--- the marker may come next
+-- the marker may come next: it counts the entries before it, and its name is new
 pub record IsNextMarker (h : List Event) (m : LogMarker) : Type 0 where
   pub after : m.after ≡ length (log h)
   pub new_name : has_marker h m.name ≡ false
@@ -51,6 +51,6 @@ Brings h (items.Marker m) events = IsNextMarker h m × (events ≡ Marker m.name
 abbrev pub BringsNothing : List Event → LogItem → Type 0
 BringsNothing h item = (events : List Event) → Brings h item events → ⊥
 
--- the history has the events more that the item brings
+-- the new history is the old one with the events that the item brings
 abbrev pub AddsItem : List Event → LogItem → List Event → Type 0
 AddsItem old item new = (events : List Event) × Brings old item events × (new ≡ old ++ events)
