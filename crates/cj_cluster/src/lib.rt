@@ -2,8 +2,9 @@
 //!
 //! `specs/History` has histories of events, the outcome of each log entry, and turns: what a session may be answered.
 //! `specs/Moves` has the state of the controller and what each move may give. `specs/Script` has lines of scripts.
-//! The contract is one law (`laws.rt`): after every run of moves, each session is between two replies.
+//! The main law (`laws.rt`): after every run of moves, each session is between two replies.
 //! From there its replies in a list of moves are a chain of turns (`IsChained`).
+//! `freshness_laws.rt` says how long a kept answer is the one that the log gives (`specs/History/Freshness`).
 //! A new move concerns `moves.rt`, `specs/Moves/Moves` and `specs/Script/Lines`; docs/ARCHITECTURE.md says more.
 //! Proofs begin in `proofs/Soundness` (every move keeps the invariant) and its parts in `proofs/Effects`.
 //! `proofs/Answered` shows a turn for each reply, `proofs/Between` what other moves keep, `proofs/Chains` the chains.
