@@ -75,7 +75,6 @@ module _ (tells : Bool) (a : SessionView) (c z : Core) (s : ℕ) (some : 0 < s) 
       (λ (e : s ≡ n → ⊥). stays (follows_opened c z s n user e h.1 (subst (λ (k : ℕ). z ≡ record c { sessions = c.sessions ++ new_session k user ∷ []; greatest = k }) (sym h.1) h.2)))
       (cases_eq s n)
   opens user (Ok (moved.Refused r)) h = same h.2
-  opens user (Err NoMemory) h = same h
   opens user _ h = absurd h
 
   -- a session closes
@@ -112,14 +111,12 @@ module _ (tells : Bool) (a : SessionView) (c z : Core) (s : ℕ) (some : 0 < s) 
   disables : (b : ℕ) (g : MoveResult) → CanDisable c b → Disables c b g z → After tells a c s (Disable b) z (reply_given c s (Disable b) g)
   disables b (Ok moved.Disabled) can h = while_free (event.Disabled b) refl refl (λ q. refl) can.is_free h.1
   disables b (Ok (moved.Refused r)) can h = same h.2
-  disables b (Err NoMemory) can h = same h
   disables b _ can h = absurd h
 
   -- a backend is enabled
   enables : (b : ℕ) (g : MoveResult) → CanEnable c b → Enables c b g z → After tells a c s (Enable b) z (reply_given c s (Enable b) g)
   enables b (Ok moved.Enabled) can h = while_free (event.Enabled b) refl refl (λ q. refl) can.is_free h.1
   enables b (Ok (moved.Refused r)) can h = same h.2
-  enables b (Err NoMemory) can h = same h
   enables b _ can h = absurd h
 
   -- the session of the open entry is open, where it is this one

@@ -116,7 +116,6 @@ grow_open : (c : Core) (user : List ℕ) (g : MoveResult) (z : Core) → moves.O
 grow_open c user (Ok (moved.Session n)) z h =
     grows_in c z (c.sessions ++ new_session (c.greatest + 1) user ∷ []) (c.greatest + 1) (counts_push c.sessions (c.greatest + 1) user) (omega arith) h.2
 grow_open c user (Ok (moved.Refused r)) z h = grows_same 1 c z h.2
-grow_open c user (Err NoMemory) z h = grows_same 1 c z h
 grow_open c user _ z h = absurd h
 
 -- a session is closed
@@ -218,14 +217,12 @@ grow_arm c _ z h = absurd h
 grow_disable : (c : Core) (b : ℕ) (g : MoveResult) (z : Core) → moves.Disables c b g z → Grows 1 c z
 grow_disable c b (Ok moved.Disabled) z h = grows_to c z _ c.failed c.starved c.sessions (counts_same c.sessions) h.1
 grow_disable c b (Ok (moved.Refused r)) z h = grows_same 1 c z h.2
-grow_disable c b (Err NoMemory) z h = grows_same 1 c z h
 grow_disable c b _ z h = absurd h
 
 -- a backend is enabled, or the history is full
 grow_enable : (c : Core) (b : ℕ) (g : MoveResult) (z : Core) → moves.Enables c b g z → Grows 1 c z
 grow_enable c b (Ok moved.Enabled) z h = grows_to c z _ c.failed c.starved c.sessions (counts_same c.sessions) h.1
 grow_enable c b (Ok (moved.Refused r)) z h = grows_same 1 c z h.2
-grow_enable c b (Err NoMemory) z h = grows_same 1 c z h
 grow_enable c b _ z h = absurd h
 
 -- a checkpoint is marked, or refused

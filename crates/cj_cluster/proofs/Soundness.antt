@@ -31,7 +31,6 @@ sound_open c user (Ok (moved.Session n)) z fits w h =
     let more : c.greatest < SESSION_NUMBER_LIMIT = leb-false _ _ full.1 in
     subst CoreInvariant (sym h.2) (sound_sessions c (c.sessions ++ new_session (c.greatest + 1) user ∷ []) (c.greatest + 1) w (are_opened c.history c.greatest c.sessions user (sessions_are c w) few more fits))
 sound_open c user (Ok (moved.Refused r)) z fits w h = subst CoreInvariant (sym h.2) w
-sound_open c user (Err NoMemory) z fits w h = subst CoreInvariant (sym h) w
 sound_open c user _ z fits w h = absurd h
 
 -- a session is closed
@@ -293,14 +292,12 @@ sound_arm c _ z w h = absurd h
 sound_disable : (c : Core) (b : ℕ) (g : MoveResult) (z : Core) → CoreInvariant c → CanDisable c b → moves.Disables c b g z → CoreInvariant z
 sound_disable c b (Ok moved.Disabled) z w can h = subst CoreInvariant (sym h.1) (sound_disabled c b w can.is_free can.on h.0)
 sound_disable c b (Ok (moved.Refused r)) z w can h = subst CoreInvariant (sym h.2) w
-sound_disable c b (Err NoMemory) z w can h = subst CoreInvariant (sym h) w
 sound_disable c b _ z w can h = absurd h
 
 -- a backend is enabled, or the history is full
 sound_enable : (c : Core) (b : ℕ) (g : MoveResult) (z : Core) → CoreInvariant c → CanEnable c b → moves.Enables c b g z → CoreInvariant z
 sound_enable c b (Ok moved.Enabled) z w can h = subst CoreInvariant (sym h.1) (sound_enabled c b w can.is_free can.off (is_there c.positions b _ can.at) can.at h.0)
 sound_enable c b (Ok (moved.Refused r)) z w can h = subst CoreInvariant (sym h.2) w
-sound_enable c b (Err NoMemory) z w can h = subst CoreInvariant (sym h) w
 sound_enable c b _ z w can h = absurd h
 
 -- a checkpoint is marked, or refused

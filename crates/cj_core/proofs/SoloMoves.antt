@@ -34,7 +34,6 @@ module _ (tells : Bool) (c z : Core) (s : ℕ) (w : CoreInvariant c) (stands : S
   opens : (user : List ℕ) (g : MoveResult) → OpensSession c user g z → StandsBetweenCalls z s
   opens user (Ok (moved.Session n)) h = with_one_session user h.2
   opens user (Ok (moved.Refused r)) h = as_it_was h.2
-  opens user (Err NoMemory) h = as_it_was h
   opens user _ h = absurd h
 
   arms : (g : MoveResult) → Arms c g z → StandsBetweenCalls z s
@@ -44,13 +43,11 @@ module _ (tells : Bool) (c z : Core) (s : ℕ) (w : CoreInvariant c) (stands : S
   disables : (b : ℕ) (g : MoveResult) → Disables c b g z → StandsBetweenCalls z s
   disables b (Ok moved.Disabled) h = with_one_event (event.Disabled b) refl refl h.1
   disables b (Ok (moved.Refused r)) h = as_it_was h.2
-  disables b (Err NoMemory) h = as_it_was h
   disables b _ h = absurd h
 
   enables : (b : ℕ) (g : MoveResult) → Enables c b g z → StandsBetweenCalls z s
   enables b (Ok moved.Enabled) h = with_one_event (event.Enabled b) refl refl h.1
   enables b (Ok (moved.Refused r)) h = as_it_was h.2
-  enables b (Err NoMemory) h = as_it_was h
   enables b _ h = absurd h
 
   marks : (name : List ℕ) (g : MoveResult) → Marks c name g z → StandsBetweenCalls z s

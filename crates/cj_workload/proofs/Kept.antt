@@ -44,13 +44,11 @@ module _ (tells : Bool) (c z : Core) where
   disables : (b : ℕ) (g : MoveResult) → Disables c b g z → KeepsCore (enabled_by g) c z
   disables b (Ok moved.Disabled) h = with_event (event.Disabled b) 0 refl h.1
   disables b (Ok (moved.Refused r)) h = as_it_was h.2
-  disables b (Err NoMemory) h = as_it_was h
   disables b _ h = absurd h
 
   enables : (b : ℕ) (g : MoveResult) → Enables c b g z → KeepsCore (enabled_by g) c z
   enables b (Ok moved.Enabled) h = with_event (event.Enabled b) 1 refl h.1
   enables b (Ok (moved.Refused r)) h = as_it_was h.2
-  enables b (Err NoMemory) h = as_it_was h
   enables b _ h = absurd h
 
   replays : (b : ℕ) (g : MoveResult) → Replays tells c b g z → KeepsCore (enabled_by g) c z

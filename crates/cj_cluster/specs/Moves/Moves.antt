@@ -182,11 +182,11 @@ opened_for c user = record c { sessions = c.sessions ++ new_session (c.greatest 
 abbrev pub closed_for : Core → ℕ → Core
 closed_for c s = record c { sessions = filter (λ (x : OpenSession). not (x.number == s)) c.sessions }
 
+-- a session of the next number is opened, or no number is left; it never runs out of memory
 abbrev pub OpensSession : Core → List ℕ → MoveResult → Core → Type 0
 OpensSession c user (Ok (moved.Session n)) z =
     (has_no_number c ≡ false) × (n ≡ c.greatest + 1) × (z ≡ opened_for c user)
 OpensSession c user (Ok (moved.Refused r)) z = (has_no_number c ≡ true) × (r ≡ sessions_full c) × (z ≡ c)
-OpensSession c user (Err NoMemory) z = z ≡ c
 OpensSession c user _ z = ⊥
 
 abbrev pub ClosesSession : Core → ℕ → MoveResult → Core → Type 0
@@ -512,16 +512,16 @@ abbrev pub Arms : Core → MoveResult → Core → Type 0
 Arms c (Ok moved.Armed) z = z ≡ c
 Arms c _ z = ⊥
 
+-- the backend is disabled, or the history has no room for the event; it never runs out of memory
 abbrev pub Disables : Core → ℕ → MoveResult → Core → Type 0
 Disables c b (Ok moved.Disabled) z = (0 < events_left c.history) × (z ≡ happened c (event.Disabled b))
 Disables c b (Ok (moved.Refused r)) z = (events_left c.history ≡ 0) × (r ≡ history_full c) × (z ≡ c)
-Disables c b (Err NoMemory) z = z ≡ c
 Disables c b _ z = ⊥
 
+-- the backend is enabled, or the history has no room for the event; it never runs out of memory
 abbrev pub Enables : Core → ℕ → MoveResult → Core → Type 0
 Enables c b (Ok moved.Enabled) z = (0 < events_left c.history) × (z ≡ happened c (event.Enabled b))
 Enables c b (Ok (moved.Refused r)) z = (events_left c.history ≡ 0) × (r ≡ history_full c) × (z ≡ c)
-Enables c b (Err NoMemory) z = z ≡ c
 Enables c b _ z = ⊥
 
 -- ---- checkpoints
