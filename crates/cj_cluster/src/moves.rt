@@ -282,7 +282,7 @@ impl Duplicate for OpenSession {
         Ok(OpenSession {
             number: self.number,
             user: self.user.copy(alloc)?,
-            queries: self.requests,
+            requests: self.requests,
             least: self.least,
             reading: self.reading.copy(alloc)?,
         })

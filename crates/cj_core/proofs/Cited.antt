@@ -16,6 +16,7 @@ pub use Rattle.cj_core.proofs.StartTakes.{others_untouched, took_open}
 pub use Rattle.cj_core.proofs.StartWhole.{enabled_standing, has_started, none_on, starts_from}
 pub use Rattle.cj_core.proofs.Starting.{Moving, Seating, made_fresh, moving_first, moving_last, moving_more, moving_none, moving_room, seating_first, seating_more, seating_nothing, told_of_backends}
 pub use Rattle.cj_core.proofs.WriteCache.{aborted_after, ended_follows, refused_after, refused_follows}
+pub use Rattle.cj_core.proofs.WriteStarving.{finished_starving, refused_starving, scheduled_starving}
 pub use Rattle.cj_model.specs.declared.answer.Asked.TheVariants.{Rows}
 pub use Rattle.cj_model.specs.declared.limits.TheConstants.{BACKEND_LIMIT}
 pub use Rattle.std.proofs.lemmas.Str.{IsUtf8-nil, is_utf8-from_IsUtf8}

@@ -21,3 +21,4 @@ pub mod StartTakes
 pub mod StartWhole
 pub mod Starting
 pub mod WriteCache
+pub mod WriteStarving

@@ -288,7 +288,7 @@ module _ (tells : Bool) (s tx : ℕ) (user : List ℕ) (select : Select) (old no
           disabled = disabled;
           setup = setup ∙ so_far.setup;
           number = refl;
-          queries = ap (λ (x : OpenSession). x.requests) new_session_is ∙ (counted ∙ ap (λ (c : Core). (session_at c s).requests + 1) so_far.core);
+          requests = ap (λ (x : OpenSession). x.requests) new_session_is ∙ (counted ∙ ap (λ (c : Core). (session_at c s).requests + 1) so_far.core);
           turn = turn.0;
           at_end = turn.1;
           stands =

@@ -201,7 +201,7 @@ module _ (tells : Bool) (s tx : ℕ) (user : List ℕ) (act : Act) (reply : Repl
               ∙ ((ended.each b).disabled (still_on b ∙ off) ∙ ap (λ (xs : List CellState). slice_get xs b) cells_begun);
           setup = ap (λ (x : WorldState). x.setup) ended.ended ∙ (ended.taken.setup ∙ ap (λ (x : WorldState). x.setup) after);
           number = refl;
-          queries = ap (λ (x : OpenSession). x.requests) new_session_is;
+          requests = ap (λ (x : OpenSession). x.requests) new_session_is;
           turn = turn;
           at_end = reads_nothing call (seen_at new.core s) act (act_of_request act);
           stands = still_stands;
@@ -250,7 +250,7 @@ module _ (tells : Bool) (s tx : ℕ) (user : List ℕ) (act : Act) (old new : Wo
           disabled = λ b off. ap (λ (xs : List CellState). slice_get xs b) cells;
           setup = setup;
           number = refl;
-          queries = ap (λ (x : OpenSession). x.requests) refused_session;
+          requests = ap (λ (x : OpenSession). x.requests) refused_session;
           turn = subst (Turn tells old.core.placement s (seen_at old.core s) refusing) seen turn;
           at_end = reads_nothing refusing (seen_at new.core s) act (act_of_request act);
           stands =

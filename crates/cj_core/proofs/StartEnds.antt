@@ -128,8 +128,10 @@ module _ (tx : ℕ) (old sched : WorldState) (came : IsSameWorldButLog (with_cor
                 placement = ap (λ (c : Core). c.placement) only.core ∙ ap (λ (c : Core). c.placement) core_then;
                 sessions = ap (λ (ss : List OpenSession). with_session ss 0 (answered_at (last_number mid.core))) (sessions_mid ∙ alone) ∙ sym alone;
                 greatest = ap (λ (c : Core). c.greatest) only.core ∙ ap (λ (c : Core). c.greatest) core_then;
+                dumps = ap (λ (c : Core). c.dumps) only.core ∙ ap (λ (c : Core). c.dumps) core_then;
                 setup = only.setup ∙ ap (λ (w : WorldState). w.setup) came;
                 cache = only.cache ∙ ap (λ (w : WorldState). w.cache) came;
+                balance = only.balance ∙ ap (λ (w : WorldState). w.balance) came;
               };
           stands = λ faults stands b lt. after_it faults b (behind_it faults stands b (subst (λ p. b < p) backends_mid lt));
         })
@@ -194,7 +196,16 @@ passing_next p i =
     sym (ap (filter p) (map-id (range_with_len 1 (i + 1)))) ∙ (filter_of_map_range_with_len_more p (λ n. n) 1 i (i + 1) next ∙ ap (λ (ns : List ℕ). filter p ns ++ cond (p (i + 1)) ((i + 1) ∷ []) []) (map-id (range_with_len 1 i)))
 
 cluster_then : (old mid new : WorldState) → IsSameCluster old mid → IsSameCluster mid new → IsSameCluster old new
-cluster_then old mid new x y = record { placement = y.placement ∙ x.placement; sessions = y.sessions ∙ x.sessions; greatest = y.greatest ∙ x.greatest; setup = y.setup ∙ x.setup; cache = y.cache ∙ x.cache }
+cluster_then old mid new x y =
+    record {
+      placement = y.placement ∙ x.placement;
+      sessions = y.sessions ∙ x.sessions;
+      greatest = y.greatest ∙ x.greatest;
+      dumps = y.dumps ∙ x.dumps;
+      setup = y.setup ∙ x.setup;
+      cache = y.cache ∙ x.cache;
+      balance = y.balance ∙ x.balance;
+    }
 
 module _ (old now new : WorldState) (i : ℕ) (to : EndedTo old now i) (within : i < last_number old.core) where
   was_open : is_orphan now.core (i + 1) ≡ is_orphan old.core (i + 1)

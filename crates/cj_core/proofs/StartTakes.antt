@@ -85,6 +85,7 @@ takes_then old mid new x y =
       setup = y.setup ∙ x.setup;
       recovery_log = y.recovery_log ∙ x.recovery_log;
       cache = y.cache ∙ x.cache;
+      balance = y.balance ∙ x.balance;
     }
 
 untouched_then : (old mid new : WorldState) (k : ℕ) → IsUntouched old mid k → IsUntouched mid new k → IsUntouched old new k

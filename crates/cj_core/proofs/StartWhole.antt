@@ -71,6 +71,9 @@ module _ (old rep : WorldState) (only : OnlyReplays old rep) (all : (b : ℕ) �
         history_en : en.core.history ≡ old.core.history ++ map Enabled to.enabled
         history_en = ap (λ (w : WorldState). w.core.history) to.after ∙ ap (λ (h : List Event). h ++ map Enabled to.enabled) (only_history old rep only)
 
+        dumps_en : en.core.dumps ≡ old.core.dumps
+        dumps_en = ap (λ (w : WorldState). w.core.dumps) to.after ∙ ap (λ (c : Core). c.dumps) only.core
+
         greatest_en : en.core.greatest ≡ old.core.greatest
         greatest_en = ap (λ (w : WorldState). w.core.greatest) to.after ∙ ap (λ (c : Core). c.greatest) only.core
 
@@ -89,6 +92,7 @@ module _ (old rep : WorldState) (only : OnlyReplays old rep) (all : (b : ℕ) �
                   (subst (λ (txs : List ℕ). AbortsEach en.core.history txs new.core.history) orphans_en ends.history);
               idle = ends.idle;
               sessions = ends.same.sessions ∙ enabled_alone;
+              dumps = ends.same.dumps ∙ (dumps_en ∙ ap (λ (c : Core). c.dumps) opened);
               greatest = ends.same.greatest ∙ (greatest_en ∙ ap (λ (c : Core). c.greatest) opened);
               backends = λ b lt. ends.stands (faults_of old.cells) all_stand b (subst (λ (p : Placement). b < p.backends) (sym placement_new) lt);
             }

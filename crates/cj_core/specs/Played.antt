@@ -10,6 +10,7 @@ use Rattle.cj_cluster.specs.Moves.Runs.{RunsMoves, IsBetweenReplies, IsChained}
 use Rattle.cj_state.specs.Worlds.{WorldState, IsSameWorldButLog}
 use Rattle.cj_state.specs.Faults.{faults_of, faults_after}
 use Rattle.cj_moves.specs.Armings.{HasArmings}
+use Rattle.cj_moves.specs.Caches.{HasCacheAfter}
 use Rattle.cj_moves.specs.Counting.{HasCauses, HasLogCauses, blamed, log_faults_after, tells_log_fault}
 use Rattle.cj_moves.specs.Logins.{HasLogins}
 
@@ -37,13 +38,15 @@ log_faults_over faults [] (g ∷ gs) = faults
 log_faults_over faults (m ∷ ms) [] = faults
 
 -- A move leads a world to another with this result: the state, the faults of backends and of the log's store, the
--- backends that were armed, and the logins under which backends were called.
+-- backends that were armed, and the logins under which backends were called. It looks nothing up in the result cache,
+-- and keeps nothing there.
 pub record MovesWorld (tells armable : Bool) (old : WorldState) (m : Move) (given : MoveResult) (new : WorldState) : Type 0 where
   pub moves : MovesTo tells old.core m given new.core
   pub causes : HasCauses old new m given
   pub log_causes : HasLogCauses old new m given
   pub armings : HasArmings armable old new m given
   pub logins : HasLogins old new m given
+  pub cache : HasCacheAfter old new m
   pub setup : new.setup ≡ old.setup
 
 -- the moves lead a world to another, one after another, with these results

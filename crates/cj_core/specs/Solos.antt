@@ -28,7 +28,7 @@ use Rattle.cj_cluster.specs.declared.event.Event.TheVariants.{Sched, Ended, Read
 use Rattle.cj_cluster.specs.declared.moves.Move.{Move}
 use Rattle.cj_cluster.specs.declared.moves.Move.TheVariants.{Open, Close, Schedule, Abort, Apply, End, Read, Arm, Disable, Replay, Enable, Mark, Dump, Load}
 use Rattle.cj_cluster.specs.History.Answering.{HasServer, HasNoServer}
-use Rattle.cj_cluster.specs.History.Histories.{log, is_enabled, is_free, events_left}
+use Rattle.cj_cluster.specs.History.Histories.{log, is_enabled, is_free, events_left, masks_of_ends}
 use Rattle.cj_cluster.specs.History.Turns.{SessionView, Call, Turn, entry_of_call}
 use Rattle.cj_cluster.specs.Moves.Cores.{Core, find_session, session_at}
 use Rattle.cj_cluster.specs.Moves.Moves.{is_open, takes_part_in, with_request_counted}
@@ -54,7 +54,7 @@ desk_of d =
       admits = admits (accounts_of d.world);
       session = d.session;
       seen = seen_at d.world.core d.session;
-      queries = (session_at d.world.core d.session).requests;
+      requests = (session_at d.world.core d.session).requests;
     }
 
 -- between two calls the session is open and reads nothing, and no entry is open
@@ -179,6 +179,10 @@ pub record HandsOutEntry (s : ℕ) (c : Call) (act : Act) (failed : List ℕ) (o
   pub ended : new.core.history ≡ old.core.history ++ Sched (entry_of_call s c act) ∷ Ended (mask_with 0 failed) starved ∷ []
   pub logins : CallsExactly (accounts_of old) c.user (λ b. IsPartOf old.core (entry_of_call s c act) b × (is_masked (mask_with 0 failed) starved b ≡ false)) (λ b. is_masked (mask_with 0 failed) starved b ≡ true)
       (logins_of old.cells) (logins_of new.cells)
+
+-- From one history to the other an entry ended, and in it the backends of this mask ran out of memory; or none ended, and the mask is 0.
+abbrev pub EndsStarving : ℕ → List Event → List Event → Type 0
+EndsStarving starved h g = ((failed : ℕ) × (masks_of_ends g ≡ masks_of_ends h ++ (failed, starved) ∷ [])) ⊎ ((starved ≡ 0) × (masks_of_ends g ≡ masks_of_ends h))
 
 -- Nothing was scheduled, and no backend was called.
 pub record CallsNone (old new : WorldState) : Type 0 where

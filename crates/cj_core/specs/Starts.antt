@@ -86,7 +86,8 @@ StandsAfterStart faults w b =
     ⊎ ((is_enabled w.core.history b ≡ false) × (position_at w.core b ≡ None) × (slice_get (faults_of w.cells) b ≡ option_map next (slice_get faults b)))
 
 -- A start over a log that opens with this history: each backend replayed it, those that did not fail were enabled in
--- the order of their numbers, and then each transaction that was left open was ended.
+-- the order of their numbers, and then each transaction that was left open was ended. No session is open, and there is
+-- no dump.
 pub record HasStarted (p : Placement) (opening : List Event) (faults : List ℕ) (w : WorldState) : Type 0 where
   pub placement : w.core.placement ≡ p
   pub enabled : List ℕ
@@ -94,6 +95,7 @@ pub record HasStarted (p : Placement) (opening : List Event) (faults : List ℕ)
   pub history : AbortsEach (opening ++ map Enabled enabled) (orphans_of (opened_core p opening)) w.core.history
   pub idle : is_free w.core.history ≡ true
   pub sessions : w.core.sessions ≡ []
+  pub dumps : w.core.dumps ≡ []
   pub greatest : w.core.greatest ≡ greatest_session (log opening)
   pub cells : length w.cells ≡ p.backends
   pub backends : (b : ℕ) → b < p.backends → StandsAfterStart faults w b

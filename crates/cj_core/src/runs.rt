@@ -1,11 +1,12 @@
 //! Lists of moves.
 
-ghost use Rattle.std.specs.Prelude.{◌≡◌, All, IfOk, MatchResult, OnErr, map, length};
+ghost use Rattle.std.specs.Prelude.{◌≡◌, All, IfOk, MatchResult, OnErr, OnOk, map, length};
 ghost use mathlib.Core.List.{IsPrefix};
 ghost use Rattle.cj_cluster.specs.History.Legality.{IsLegal};
 ghost use Rattle.cj_cluster.specs.Moves.Moves.{MovesTo};
 ghost use Rattle.cj_cluster.specs.Moves.Runs.{IsMoveOfCluster, CanCountRequests};
 ghost use Rattle.cj_moves.specs.Armings.{HasArmings};
+ghost use Rattle.cj_moves.specs.Caches.{HasCacheAfter};
 ghost use Rattle.cj_moves.specs.Counting.{HasCauses, HasLogCauses};
 ghost use Rattle.cj_moves.specs.Logins.{HasLogins};
 ghost use Rattle.cj_state.specs.Worlds.{IsSameWorldButLog};
@@ -32,6 +33,7 @@ pub fn make<B: Backend, S: Store>(state: &mut State<B, S>, m: Move) -> Result<Ma
     ensures want { OnErr result (IsSameWorldButLog state.old state.new) }
     ensures log_want { OnErr result (state.new.recovery_log.faults ≡ state.old.recovery_log.faults) }
     ensures setup { state.new.setup ≡ state.old.setup }
+    ensures cache { HasCacheAfter state.old state.new m }
 {
     match step(state, m) {
         Ok(moved) => Ok(Made::Moved(moved)),
@@ -55,6 +57,7 @@ fn make_copy<B: Backend, S: Store>(
     ensures want { OnErr result (IsSameWorldButLog state.old state.new) }
     ensures log_want { OnErr result (state.new.recovery_log.faults ≡ state.old.recovery_log.faults) }
     ensures setup { state.new.setup ≡ state.old.setup }
+    ensures cache { OnOk result (HasCacheAfter state.old state.new m.now) }
 {
     let m = m.copy(alloc)?;
     make(state, m)

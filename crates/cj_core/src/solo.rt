@@ -14,6 +14,7 @@ ghost use Rattle.cj_cluster.specs.History.Histories.{is_free};
 ghost use Rattle.cj_cluster.specs.Moves.Cores.{session_at};
 ghost use Rattle.cj_cluster.specs.Moves.Moves as moves;
 ghost use Rattle.cj_cluster.specs.Moves.Moves.{opened_for, closed_for, with_request_counted, MovesTo};
+ghost use Rattle.cj_desk.specs.DeskStates.{desk_tx, next_call, turn_taken, CanAskDesk};
 ghost use Rattle.cj_moves.specs.Armings.{HasArmings};
 ghost use Rattle.cj_moves.specs.Caches.{HasCacheAfter};
 ghost use Rattle.cj_moves.specs.Counting.{HasCauses, HasLogCauses};
@@ -21,7 +22,7 @@ ghost use Rattle.cj_state.specs.Effects.{with_core};
 ghost use Rattle.cj_state.specs.Worlds.{accounts_of, CacheFollowsLog, IsSameWorldButLog};
 ghost use Rattle.cj_moves.specs.Logins.{HasLogins};
 ghost use Rattle.cj_core.specs.Proving.SoloParts.{call_of};
-ghost use Rattle.cj_core.specs.Solos.{desk_of, AddsEntry, IsMoveOfNoSession, ReadsWithCache, SoloSteps, StandsBetweenCalls, WorldTurn};
+ghost use Rattle.cj_core.specs.Solos.{desk_of, AddsEntry, EndsStarving, IsMoveOfNoSession, ReadsWithCache, SoloSteps, StandsBetweenCalls, WorldTurn};
 ghost use Rattle.cj_moves.specs.Steps.{IsMet};
 
 use crate::solo_read::serve_read;
@@ -121,16 +122,18 @@ impl<B: Backend, S: Store> World<B, S> {
     }
 
     /// Schedules the act as an entry of session `s`, in transaction `tx`, 0 for none, and gives its
-    /// number and reply. The number is 0 if the act was refused.
-    fn serve_write(&mut self, s: u64, user: &Text, tx: u64, act: Act) -> Written
+    /// number and reply, with the mask of the backends that ran out of memory in it. The number is 0
+    /// if the act was refused.
+    fn serve_write(&mut self, s: u64, user: &Text, tx: u64, act: Act) -> (Written, u32)
         requires stands { StandsBetweenCalls self.old.core s }
         requires counts { (session_at self.old.core s).requests < REQUEST_LIMIT }
         requires short { length user.now ≤ USER_LIMIT }
         requires written { IsWritten (request_of act) }
         requires fits { FitsTx (moves.open_tx self.old.core s) tx act }
-        ensures turn { WorldTurn B.tells s self.old (call_of self.old.core s tx user.now (request_of act) result.reply) self.new }
-        ensures entry { (failed : List ℕ) × AddsEntry result.number s (call_of self.old.core s tx user.now (request_of act) result.reply) act failed self.old.core.history self.new.core.history }
+        ensures turn { WorldTurn B.tells s self.old (call_of self.old.core s tx user.now (request_of act) result.0.reply) self.new }
+        ensures entry { (failed : List ℕ) × AddsEntry result.0.number s (call_of self.old.core s tx user.now (request_of act) result.0.reply) act failed self.old.core.history self.new.core.history }
         ensures cache { CacheFollowsLog self.old self.new }
+        ensures starved { EndsStarving result.1 self.old.core.history self.new.core.history }
     {
         serve_write(&mut self.state, s, user, tx, act)
     }
@@ -168,6 +171,18 @@ impl<B: Backend, S: Store> Solo<B, S> {
         World { state, emptied }
     }
 
+    /// Makes a write of the session as its desk does, and gives the reply. Beside it stands the mask
+    /// of the backends that ran out of memory in the entry, 0 if nothing was scheduled.
+    pub fn write_telling_starved(&mut self, user: &Text, tx: u64, act: Act) -> (Reply, u32)
+        requires can { CanAskDesk (desk_of self.old) user.now (request_of act) }
+        requires fits { FitsTx (desk_tx (desk_of self.old)) tx act }
+        ensures made { SoloSteps B.tells self.old (turn_taken (next_call (desk_of self.old) tx user.now (request_of act) result.0)) self.new }
+        ensures starved { EndsStarving result.1 self.old.world.core.history self.new.world.core.history }
+    {
+        let (written, starved) = self.world.serve_write(self.session, user, tx, act);
+        (written.reply, starved)
+    }
+
     /// Makes a move that names no session, as `World::step` does.
     pub fn step(&mut self, m: Move) -> Result<Moved, MoveError>
         requires met { IsMet self.old.world.core m }
@@ -201,7 +216,7 @@ impl<R, B: Backend, S: Store> Desk<R> for Solo<B, S> {
     }
 
     fn write(&mut self, _rt: &R, user: &Text, tx: u64, act: Act) -> Written {
-        self.world.serve_write(self.session, user, tx, act)
+        self.world.serve_write(self.session, user, tx, act).0
     }
 
     fn read(&mut self, _rt: &R, user: &Text, tx: u64, select: &Select) -> Reply {

@@ -1,10 +1,10 @@
 //! A session's write, over a whole world.
 
-ghost use Rattle.std.specs.Prelude.{◌≡◌, ◌≢◌, ◌≤◌, ◌<◌, ℕ, List, length, None, IfErr, OnOk, true, false};
+ghost use Rattle.std.specs.Prelude.{◌≡◌, ◌≢◌, ◌≤◌, ◌<◌, ◌∷◌, ◌++◌, ℕ, List, [], length, None, IfErr, OnOk, true, false};
 ghost use Rattle.cj_model.specs.declared.limits.TheConstants.{REQUEST_LIMIT, USER_LIMIT};
 ghost use Rattle.cj_model.specs.Sql.PlainRequests.{request_of};
 ghost use Rattle.cj_model.specs.Sql.WrittenRequests.{IsWritten};
-ghost use Rattle.cj_cluster.specs.History.Histories.{is_free};
+ghost use Rattle.cj_cluster.specs.History.Histories.{is_free, masks_of_ends};
 ghost use Rattle.cj_cluster.specs.History.Legality.{FitsTx};
 ghost use Rattle.cj_cluster.specs.Moves.Cores.{session_at};
 ghost use Rattle.cj_cluster.specs.Moves.Moves as moves;
@@ -15,7 +15,7 @@ ghost use Rattle.cj_state.specs.Effects.{with_core};
 ghost use Rattle.cj_core.specs.Proving.SoloParts.{open_user, call_of, EntryEnded, EntryRefused, EntryScheduled, EntryTaken, HasTakenEntry, IsLeft, SchedulesOrRefuses, TakesOpen};
 ghost use Rattle.cj_state.specs.Effects.{own_entry};
 ghost use Rattle.cj_state.specs.Worlds.{CacheFollowsLog};
-ghost use Rattle.cj_core.specs.Solos.{AddsEntry, StandsBetweenCalls, WorldTurn};
+ghost use Rattle.cj_core.specs.Solos.{AddsEntry, EndsStarving, StandsBetweenCalls, WorldTurn};
 
 use cj_backend::Backend;
 use cj_book::BookError;
@@ -66,17 +66,20 @@ fn take_everywhere<B: Backend, S: Store>(state: &mut State<B, S>)
     state.legal();
 }
 
-/// Ends the open entry, which is one of session `s`, once each enabled backend has taken it.
-fn finish<B: Backend, S: Store>(state: &mut State<B, S>, s: u64) -> Reply
+/// Ends the open entry, which is one of session `s`, once each enabled backend has taken it. Gives
+/// the mask of the backends that ran out of memory in it, too.
+fn finish<B: Backend, S: Store>(state: &mut State<B, S>, s: u64) -> (Reply, u32)
     requires open { is_free state.old.core.history ≡ false }
     requires waits { moves.is_waiting state.old.core s ≡ true }
-    ensures { EntryEnded B.tells s (open_user state.old.core) state.old result state.new }
+    ensures ended { EntryEnded B.tells s (open_user state.old.core) state.old result.0 state.new }
+    ensures starved { (failed : ℕ) × (masks_of_ends state.new.core.history ≡ masks_of_ends state.old.core.history ++ (failed, result.1) ∷ []) }
 {
     take_everywhere(state);
     let reply = state.reply();
+    let starved = state.starved();
     state.end_entry(s);
     state.legal();
-    reply
+    (reply, starved)
 }
 
 /// Schedules the act as the next entry of session `s`, in transaction `tx`, 0 for none, or says why
@@ -115,7 +118,8 @@ fn schedule_for<B: Backend, S: Store>(
 }
 
 /// Schedules the act as the next entry of session `s`, in transaction `tx`, 0 for none. Has each
-/// enabled backend carry it out, and gives the entry's number and reply.
+/// enabled backend carry it out, and gives the entry's number and reply, with the mask of the
+/// backends that ran out of memory in it.
 ///
 /// A number of 0 comes with a refusal: no backend serves the request, the history has no room, the
 /// log's store failed, or memory ran out. Then nothing was scheduled.
@@ -125,25 +129,29 @@ pub fn serve_write<B: Backend, S: Store>(
     user: &Text,
     tx: u64,
     act: Act,
-) -> Written
+) -> (Written, u32)
     requires stands { StandsBetweenCalls state.old.core s }
     requires counts { (session_at state.old.core s).requests < REQUEST_LIMIT }
     requires short { length user.now ≤ USER_LIMIT }
     requires written { IsWritten (request_of act) }
     requires fits { FitsTx (moves.open_tx state.old.core s) tx act }
-    ensures turn { WorldTurn B.tells s state.old (call_of state.old.core s tx user.now (request_of act) result.reply) state.new }
-    ensures entry { (failed : List ℕ) × AddsEntry result.number s (call_of state.old.core s tx user.now (request_of act) result.reply) act failed state.old.core.history state.new.core.history }
+    ensures turn { WorldTurn B.tells s state.old (call_of state.old.core s tx user.now (request_of act) result.0.reply) state.new }
+    ensures entry { (failed : List ℕ) × AddsEntry result.0.number s (call_of state.old.core s tx user.now (request_of act) result.0.reply) act failed state.old.core.history state.new.core.history }
     ensures cache { CacheFollowsLog state.old state.new }
+    ensures starved { EndsStarving result.1 state.old.core.history state.new.core.history }
 {
     state.legal();
     match schedule_for(state, s, user, tx, act) {
-        Ok(number) => Written {
-            number,
-            reply: finish(state, s),
-        },
-        Err(refusal) => Written {
-            number: 0,
-            reply: refuse(state, s, refusal),
-        },
+        Ok(number) => {
+            let (reply, starved) = finish(state, s);
+            (Written { number, reply }, starved)
+        }
+        Err(refusal) => (
+            Written {
+                number: 0,
+                reply: refuse(state, s, refusal),
+            },
+            0,
+        ),
     }
 }

@@ -135,6 +135,7 @@ fn bring_up<B: Backend, S: Store>(state: &mut State<B, S>) -> Result<(), StartEr
     ensures uncalled { OnOk result (log state.old.core.history ≡ [] → state.new.cells ≡ state.old.cells) }
     ensures setup { OnOk result (state.new.setup ≡ state.old.setup) }
     ensures cache { OnOk result (state.new.cache ≡ state.old.cache) }
+    ensures balance { OnOk result (state.new.balance ≡ state.old.balance) }
     ensures longer { IsLonger state.old state.new }
     ensures cause { CountsFaultOfPart state.old.recovery_log.faults result state.new.recovery_log.faults }
 {
@@ -149,7 +150,8 @@ fn bring_up<B: Backend, S: Store>(state: &mut State<B, S>) -> Result<(), StartEr
 impl<B: Backend + Drop, S: Store + Drop> World<B, S> {
     /// Starts a world from its recovery log, with backends that are empty. Each backend replays the
     /// whole log, and those that don't fail are enabled in the order of their numbers. Then each
-    /// transaction that the log leaves open is ended. No session is open.
+    /// transaction that the log leaves open is ended. No session is open, and there is no dump. The
+    /// result cache and the balancer are those that were handed in.
     ///
     /// A backend that fails is out, and the start goes on without it. One that runs out of memory
     /// ends the start with `NoMemory`. An error drops the backends and hands the log's store back,
@@ -171,6 +173,7 @@ impl<B: Backend + Drop, S: Store + Drop> World<B, S> {
         ensures setup { IfOk result (λ world. world.setup ≡ record { names = parts.book.placement.names; accounts = parts.accounts }) }
         ensures numbers { IfOk result NumbersFollowHistory }
         ensures cache { IfOk result (λ world. world.cache ≡ parts.book.cache) }
+        ensures balance { IfOk result (λ world. world.balance ≡ parts.book.balancer) }
         ensures kept { S.tells ≡ true → IfOk result (λ world. KeepsItems world.recovery_log.bytes (items_of world.core.history)) }
         ensures bytes { S.tells ≡ true → RefusesBytes S.held (S.held log) result }
         ensures cause { CountsFaultOfStart S.faults (S.faults log) result }

@@ -136,6 +136,7 @@ impl<B: Backend, S: Store> World<B, S> {
         ensures want { OnErr result (IsSameWorldButLog self.old self.new) }
         ensures log_want { OnErr result (self.new.recovery_log.faults ≡ self.old.recovery_log.faults) }
         ensures setup { self.new.setup ≡ self.old.setup }
+        ensures cache { HasCacheAfter self.old self.new m }
     {
         make(&mut self.state, m)
     }

@@ -1,8 +1,8 @@
--- What the moves of one backend keep, and what a turn does: the placement, the requests that each session has made, and how often backends were enabled.
+-- What the moves of one backend keep: the placement, the requests that each session has made, how often backends were enabled, and the faults of the log's store.
 use Rattle.std.proofs.Common.{◌≡◌, ◌∙◌, refl, sym, ap, subst, ℕ, ◌+◌, add-zero, cond, Bool, List, [], ◌∷◌, ◌++◌, Ok, Err, arith}
 use Rattle.std.specs.Prelude.{count_by}
 use Rattle.std.proofs.lemmas.List.Sums.{sum_by-append}
-use Rattle.cj_workload.proofs.Common.{Core, session_at}
+use Rattle.cj_workload.proofs.Common.{Core, session_at, WorldState}
 use Rattle.cj_cluster.specs.declared.event.Event.{Event}
 use Rattle.cj_cluster.specs.declared.event.Event.TheVariants as event
 use Rattle.cj_cluster.specs.declared.moves.Move.{Move}
@@ -11,6 +11,7 @@ use Rattle.cj_cluster.specs.declared.moves.Moved.TheVariants as moved
 use Rattle.cj_cluster.specs.declared.moves.MoveError.TheVariants.{NoMemory}
 use Rattle.cj_core.proofs.Common.{Arms, Disables, DoesMove, Dumps, Enables, Loads, MoveResult, MovesTo, Replays, happened, not_now}
 use Rattle.cj_core.specs.Solos.{SoloState}
+use Rattle.cj_moves.specs.Counting.{HasLogCauses}
 use Rattle.cj_cluster.proofs.Soundness.{by_reason}
 use Rattle.cj_workload.specs.Proving.Keeping.{IsOfBackend, KeepsSolo, enabled_by}
 use Rattle.cj_workload.specs.Summaries.{enablings, is_enabling}
@@ -22,7 +23,7 @@ pub record KeepsCore (enabled : ℕ) (c z : Core) : Type 0 where
   pub counted : enablings z.history ≡ enablings c.history + enabled
 
 -- events more
-grown : (h more : List Event) (n : ℕ) → enablings more ≡ n → enablings (h ++ more) ≡ enablings h + n
+pub grown : (h more : List Event) (n : ℕ) → enablings more ≡ n → enablings (h ++ more) ≡ enablings h + n
 grown h more n is = sum_by-append (λ (e : Event). cond (is_enabling e) 1 0) h more ∙ ap (λ (k : ℕ). enablings h + k) is
 
 module _ (tells : Bool) (c z : Core) where
@@ -82,16 +83,27 @@ module _ (tells : Bool) (c z : Core) where
 
 -- ---- a session
 
+-- such a move writes nothing to the log
+log_kept : (m : Move) (g : MoveResult) (old new : WorldState) → IsOfBackend m → HasLogCauses old new m g → new.recovery_log.faults ≡ old.recovery_log.faults
+log_kept (Arm b) g old new kind h = h
+log_kept (Disable b) g old new kind h = h
+log_kept (Replay b) g old new kind h = h
+log_kept (Enable b) g old new kind h = h
+log_kept (Dump b name) g old new kind h = h
+log_kept (Load b name) g old new kind h = h
+log_kept _ g old new kind h = absurd kind
+
 module _ (tells : Bool) (a z : SoloState) where
   -- a move
-  pub keeps_made : (m : Move) (g : MoveResult) → IsOfBackend m → MovesTo tells a.world.core m g z.world.core → z.session ≡ a.session → KeepsSolo 0 (enabled_by g) a z
-  keeps_made m g kind moves session =
+  pub keeps_made : (m : Move) (g : MoveResult) → IsOfBackend m → MovesTo tells a.world.core m g z.world.core → HasLogCauses a.world z.world m g → z.session ≡ a.session → KeepsSolo 0 (enabled_by g) a z
+  keeps_made m g kind moves log_causes session =
       let kept = keeps_moved tells a.world.core z.world.core m g kind moves in
       record {
         placement = kept.placement;
         session = session;
-        queries = kept.requests z.session ∙ (ap (λ (s : ℕ). (session_at a.world.core s).requests) session ∙ sym (add-zero _));
+        requests = kept.requests z.session ∙ (ap (λ (s : ℕ). (session_at a.world.core s).requests) session ∙ sym (add-zero _));
         counted = kept.counted;
+        log_faults = log_kept m g a.world z.world kind log_causes;
       }
 
 -- one after another
@@ -101,4 +113,4 @@ keeps_both n m i j a b z h k =
     let r = k.requests in
     let e = h.counted in
     let f = k.counted in
-    record { placement = k.placement ∙ h.placement; session = k.session ∙ h.session; requests = omega (arith, q, r); counted = omega (arith, e, f) }
+    record { placement = k.placement ∙ h.placement; session = k.session ∙ h.session; requests = omega (arith, q, r); counted = omega (arith, e, f); log_faults = k.log_faults ∙ h.log_faults }

@@ -3,4 +3,5 @@ pub mod Common
 pub mod Kept
 pub mod Rounds
 pub mod Summing
+pub mod Turned
 pub mod Written

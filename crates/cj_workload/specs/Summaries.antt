@@ -41,10 +41,11 @@ pub record IsSummary (tells : Bool) (count : ℕ) (begun ended : WorldState) (s 
   pub misses : s.misses ≡ ended.cache.misses
   pub equal : tells ≡ true → s.equal ≡ true
 
--- From this world the workload of so many statements, drawn from the seed, was played, and came to this summary.
+-- From this world the workload of so many statements, drawn from the seed, was played, and came to this summary. The log's store failed in nothing.
 pub record PlaysWorkload (tells armable : Bool) (seed count : ℕ) (first : WorldState) (s : Summary) : Type 0 where
   pub begun : SoloState
   pub begins : Begins tells armable (session_opened first) begun
   pub ended : SoloState
   pub rounds : PlaysRounds tells armable seed count begun ended
+  pub log_faults : ended.world.recovery_log.faults ≡ first.recovery_log.faults
   pub summary : IsSummary tells count begun.world ended.world s

@@ -20,7 +20,7 @@ use Rattle.cj_desk.specs.DeskStates.{next_call, turn_taken}
 use Rattle.cj_state.specs.Worlds.{WorldState}
 use Rattle.cj_state.specs.Effects.{with_core}
 use Rattle.cj_core.specs.Played.{MovesWorld}
-use Rattle.cj_core.specs.Solos.{SoloState, SoloSteps, desk_of}
+use Rattle.cj_core.specs.Solos.{EndsStarving, SoloState, SoloSteps, desk_of, tells_log_failure}
 use Rattle.cj_workload.specs.Statements.{creation, next_statement, table_name}
 
 -- ---- want of memory, which ends a workload
@@ -57,13 +57,16 @@ dump_name = codes "d"
 
 -- ---- statements and moves
 
--- The session asks for this outside of transactions, for a user without a name; it is answered as by one database, and no memory is wanting.
+-- The session asks for this outside of transactions, for a user without a name, and is answered as by one database. The log's store doesn't fail. No memory is wanting, neither for the reply nor at a backend.
 pub record TakesTurn (tells : Bool) (a : SoloState) (r : Request) (z : SoloState) : Type 0 where
   pub reply : Reply
   pub turn : SoloSteps tells a (turn_taken (next_call (desk_of a) 0 [] r reply)) z
   pub fed : tells_want reply ≡ false
+  pub logged : tells_log_failure reply ≡ false
+  -- an entry's end says of no backend that it ran out of memory
+  pub none_starved : EndsStarving 0 a.world.core.history z.world.core.history
 
--- A move of no session gives this; where it can't be made now it changes nothing. No memory is wanting.
+-- A move of no session gives this; where it can't be made now it changes nothing. It leaves the result cache, and no memory is wanting.
 pub record MakesOwnMove (tells armable : Bool) (a : SoloState) (m : Move) (given : MoveResult) (z : SoloState) : Type 0 where
   pub moves : MovesWorld tells armable a.world m given z.world
   pub session : z.session ≡ a.session

@@ -1,4 +1,4 @@
-//! What the backends have counted, and what they hold of the table.
+//! What backends have counted, and what they hold of the workload's table.
 
 ghost use Rattle.std.specs.Prelude.{◌≡◌, ◌↔◌, ◌<◌, ◌≤◌, ◌-◌, ◌^◌, ℕ, List, [], All, IfOk, IsTrue, true, false, length, map, min, option_copied, sum};
 ghost use Rattle.std.specs.declared.option.Option.{Option};
@@ -13,7 +13,7 @@ use cj_backend::{Backend, BackendError};
 use cj_model::{Db, ListOf, Rows, Same, has_bit};
 use std::alloc::Global;
 
-/// The rows that the database has of the table, if it has the table.
+/// The rows that the database has of the workload's table; none where it lacks the table.
 fn rows_in(db: &Db) -> Option<&Rows>
     ensures { option_copied result ≡ spec.rows_in db.now }
 {
@@ -28,7 +28,7 @@ fn rows_in(db: &Db) -> Option<&Rows>
     }
 }
 
-/// Whether they have the same rows of the table.
+/// Whether two databases have the same rows of the workload's table, or both lack it.
 fn has_same(one: &Db, other: &Db) -> bool
     ensures { IsTrue result ↔ (spec.rows_in one.now ≡ spec.rows_in other.now) }
 {
@@ -40,7 +40,7 @@ fn has_same(one: &Db, other: &Db) -> bool
     }
 }
 
-/// What each backend of the mask holds, in the order of their numbers.
+/// Asks each backend of the mask for its contents, in the order of numbers. Stops at the first that fails.
 pub fn ask_each<B: Backend + Drop>(
     alloc: Global,
     backends: Vec<B>,
@@ -62,14 +62,14 @@ pub fn ask_each<B: Backend + Drop>(
     Ok(held)
 }
 
-/// Whether all have the rows of the table that another has.
+/// Whether all of these databases have the rows of the workload's table that another one has.
 fn all_have_same(held: &[Db], other: &Db) -> bool
     ensures { IsTrue result ↔ All (λ db. spec.rows_in db ≡ spec.rows_in other.now) held.now }
 {
     held.iter().all(|db| has_same(db, other))
 }
 
-/// Whether all have the same rows of the table.
+/// Whether all of these databases have the same rows of the workload's table.
 pub fn are_equal(held: &[Db]) -> bool
     ensures { IsTrue result ↔ AreSame held.now }
 {
@@ -79,7 +79,7 @@ pub fn are_equal(held: &[Db]) -> bool
     }
 }
 
-/// How many rows of the table the first of them has.
+/// How many rows of the workload's table the first of these databases has; 0 where there is none.
 pub fn count_of(held: &[Db]) -> u64
     ensures { result ≡ first_count held.now }
 {
@@ -92,7 +92,7 @@ pub fn count_of(held: &[Db]) -> u64
     }
 }
 
-/// All that the backends have counted.
+/// The sum of the faults that the backends have counted, up to 2^64 - 1.
 pub fn count_faults<B: Backend>(backends: &[B]) -> u64
     ensures { result ≡ min (sum (map B.faults backends.now)) (2 ^ 64 - 1) }
 {

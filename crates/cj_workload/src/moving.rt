@@ -1,4 +1,5 @@
-//! The moves between the statements: backends are armed, one is dumped, and those that are out are brought back.
+//! The moves between the statements of a workload: backends are armed, one is dumped, and those that are out are
+//! brought back from that dump.
 
 ghost use Rattle.std.specs.Prelude.{◌≡◌, ◌<◌, ◌≤◌, ℕ, IfOk, Ok};
 ghost use Rattle.cj_core.specs.Played.{given_of};
@@ -17,7 +18,7 @@ use cj_model::{NoMemory, has_bit};
 use cj_outside::Store;
 use cj_place::Placement;
 
-/// Whether what a move gave says that a backend wanted memory.
+/// Whether a move gave that a backend ran out of memory.
 fn tells_want(moved: &Moved) -> bool
     ensures { result ≡ workload.gives_want (Ok moved.now) }
 {
@@ -28,7 +29,8 @@ fn tells_want(moved: &Moved) -> bool
     }
 }
 
-/// Makes a move of one backend; one that can't be made now changes nothing.
+/// Makes a move of one backend. A move that can't be made now changes nothing. It is an error that memory runs out, be
+/// it the backend's, which is out then.
 fn make<B: Backend, S: Store>(solo: &mut Solo<B, S>, m: Move) -> Result<Made, NoMemory>
     requires met { IsMet solo.old.world.core m }
     requires kind { IsOfBackend m }
@@ -47,7 +49,7 @@ fn make<B: Backend, S: Store>(solo: &mut Solo<B, S>, m: Move) -> Result<Made, No
     }
 }
 
-/// How many backends the move enabled.
+/// How many backends a move enabled, by what it gave: 1 or 0.
 fn enabled_by(made: &Made) -> u64
     ensures same { result ≡ keeping.enabled_by (given_of made.now) }
     ensures few { result ≤ 1 }
@@ -59,7 +61,7 @@ fn enabled_by(made: &Made) -> u64
     }
 }
 
-/// Enables the backend, and answers how many were enabled by that.
+/// Enables the backend, if that can be done now. Answers how many backends were enabled: 1 or 0.
 fn enable<B: Backend, S: Store>(solo: &mut Solo<B, S>, b: u8) -> Result<u64, NoMemory>
     requires { b < solo.old.world.core.placement.backends }
     ensures made { IfOk result (λ _. MakesMove B.tells B.can_be_armed solo.old (Move.Enable b) solo.new) }
@@ -70,7 +72,7 @@ fn enable<B: Backend, S: Store>(solo: &mut Solo<B, S>, b: u8) -> Result<u64, NoM
     Ok(enabled_by(&made))
 }
 
-/// Takes the dump that backends are brought back from, of a backend that is disabled for it.
+/// Disables the backend, dumps it as `d`, and enables it. Backends are brought back from this dump.
 pub fn take_dump<B: Backend, S: Store>(solo: &mut Solo<B, S>, b: u8) -> Result<(), NoMemory>
     requires { b < solo.old.world.core.placement.backends }
     ensures made { IfOk result (λ _. TakesDump B.tells B.can_be_armed b solo.old solo.new) }
@@ -83,7 +85,7 @@ pub fn take_dump<B: Backend, S: Store>(solo: &mut Solo<B, S>, b: u8) -> Result<(
     Ok(())
 }
 
-/// The backend takes an entry, if it can.
+/// Has the backend replay the next entry of the log, if it can.
 fn take_entry<B: Backend, S: Store>(solo: &mut Solo<B, S>, b: u8) -> Result<(), NoMemory>
     requires { b < solo.old.world.core.placement.backends }
     ensures made { IfOk result (λ _. MakesMove B.tells B.can_be_armed solo.old (Move.Replay b) solo.new) }
@@ -93,7 +95,7 @@ fn take_entry<B: Backend, S: Store>(solo: &mut Solo<B, S>, b: u8) -> Result<(), 
     Ok(())
 }
 
-/// The backend takes so many entries, as far as it can.
+/// Has the backend replay the next `count` entries of the log, as far as it can.
 fn take_entries<B: Backend, S: Store>(
     solo: &mut Solo<B, S>,
     b: u8,
@@ -109,7 +111,7 @@ fn take_entries<B: Backend, S: Store>(
     Ok(())
 }
 
-/// The backend takes the entries behind a position, and is enabled. Answers how many were enabled by that.
+/// Has the backend replay the entries after a position, and enables it. Answers how many were enabled: 1 or 0.
 fn catch_up<B: Backend, S: Store>(
     solo: &mut Solo<B, S>,
     b: u8,
@@ -125,7 +127,8 @@ fn catch_up<B: Backend, S: Store>(
     enable(solo, b)
 }
 
-/// Brings the backend back, where it is out and the dump covers what it hosts. Answers how many were enabled by that.
+/// Brings the backend back, where it is out and the dump covers what it hosts: it is loaded from the dump, replays to
+/// the log's end and is enabled. Answers how many backends were enabled: 1 or 0.
 fn repair<B: Backend, S: Store>(solo: &mut Solo<B, S>, b: u8) -> Result<u64, NoMemory>
     requires { b < solo.old.world.core.placement.backends }
     ensures made { IfOk result (λ _. Repairs B.tells B.can_be_armed b solo.old solo.new) }
@@ -143,7 +146,7 @@ fn repair<B: Backend, S: Store>(solo: &mut Solo<B, S>, b: u8) -> Result<u64, NoM
     }
 }
 
-/// Does so with each backend.
+/// Brings back each backend that is out and whose tables the dump covers. Answers how many were enabled.
 pub fn repair_each<B: Backend, S: Store>(solo: &mut Solo<B, S>) -> Result<u64, NoMemory>
     ensures made { IfOk result (λ _. RepairsEach B.tells B.can_be_armed solo.old.world.core.placement.backends solo.old solo.new) }
     ensures keeps { IfOk result (λ enabled. KeepsSolo 0 enabled solo.old solo.new) }
@@ -156,7 +159,7 @@ pub fn repair_each<B: Backend, S: Store>(solo: &mut Solo<B, S>) -> Result<u64, N
     Ok(enabled)
 }
 
-/// The first backend that hosts the table.
+/// The first backend that hosts the workload's table; none where no backend does.
 pub fn first_host(placement: &Placement) -> Option<u8>
     ensures { result ≡ workload.first_host (placement_of placement.now) }
 {
@@ -164,7 +167,7 @@ pub fn first_host(placement: &Placement) -> Option<u8>
     (0..placement.count()).find(|b| has_bit(hosts, *b))
 }
 
-/// The backend that is armed before statement `i`.
+/// The backend that is armed before statement `i`: where `i` mod 500 is 1, a backend in turn, if it hosts the table.
 fn due(placement: &Placement, i: u64) -> Option<u8>
     ensures { result ≡ workload.due (placement_of placement.now) i }
 {
@@ -179,7 +182,7 @@ fn due(placement: &Placement, i: u64) -> Option<u8>
     }
 }
 
-/// Arms the backend that is due before statement `i`.
+/// Arms the backend that is due before statement `i`, if one is.
 pub fn arm<B: Backend, S: Store>(solo: &mut Solo<B, S>, i: u64) -> Result<(), NoMemory>
     ensures made { IfOk result (λ _. Arms B.tells B.can_be_armed (workload.due solo.old.world.core.placement i) solo.old solo.new) }
     ensures keeps { IfOk result (λ _. KeepsSolo 0 0 solo.old solo.new) }

@@ -1,12 +1,13 @@
-//! The workload, statement by statement.
+//! A workload, played statement by statement.
 
-ghost use Rattle.std.specs.Prelude.{◌≡◌, ◌<◌, ◌≤◌, ◌+◌, ◌^◌, ℕ, [], true, IfOk, IsErrOf};
+ghost use Rattle.std.specs.Prelude.{◌≡◌, ◌<◌, ◌≤◌, ◌+◌, ◌^◌, ℕ, [], false, true, IfOk, IsErrOf, OnOk};
 ghost use Rattle.cj_model.specs.declared.request.Request.TheVariants as request;
 ghost use Rattle.cj_model.specs.declared.limits.TheConstants.{REQUEST_LIMIT, SESSION_NUMBER_LIMIT};
 ghost use Rattle.cj_model.specs.Sql.PlainRequests.{request_of};
 ghost use Rattle.cj_model.specs.Sql.WrittenRequests.{IsWritten};
 ghost use Rattle.cj_cluster.specs.History.Histories.{is_free};
 ghost use Rattle.cj_cluster.specs.Moves.Cores.{session_at};
+ghost use Rattle.cj_core.specs.Solos as solos;
 ghost use Rattle.cj_workload.specs.Proving.Keeping.{IsOutside, KeepsSolo};
 ghost use Rattle.cj_workload.specs.Statements.{request_of_statement};
 ghost use Rattle.cj_workload.specs.Summaries.{PlaysWorkload};
@@ -19,7 +20,7 @@ use crate::summary::{Summary, sum_up};
 use cj_backend::Backend;
 use cj_core::{Solo, World};
 use cj_desk::Desk;
-use cj_model::{Act, NO_MEMORY, NoMemory, Reply, STARVED_ALL, Select, Text};
+use cj_model::{Act, LOG_FAULT, NO_MEMORY, NoMemory, Reply, STARVED_ALL, Select, Text};
 use cj_outside::{PcgDraw, Store};
 use std::alloc::Global;
 use thiserror::Error;
@@ -33,22 +34,47 @@ pub enum WorkloadError {
     /// A host failed when it was asked what it holds at the end, or none was enabled.
     #[error("no host tells what it holds")]
     Untold,
+    /// The log's store failed when an entry was written to it.
+    #[error("the log failed")]
+    LogFault,
+    /// Memory ran out, here or at a backend.
     #[error("out of memory")]
     NoMemory,
 }
 
-impl From<NoMemory> for WorkloadError {
+/// Why a workload stops before its last statement.
+#[derive(Clone, Copy)]
+enum Stop {
+    LogFault,
+    NoMemory,
+}
+
+impl From<NoMemory> for Stop {
     ghost use Rattle.std.specs.Prelude.{◌≡◌};
-    ghost use Rattle.cj_workload.specs.declared.playing.WorkloadError.TheVariants as errors;
+    ghost use Rattle.cj_workload.specs.declared.playing.Stop.TheVariants as stops;
 
-    ghost from_gives = { λ _ e. e ≡ errors.NoMemory };
+    ghost from_gives = { λ _ stop. stop ≡ stops.NoMemory };
 
-    fn from(_error: NoMemory) -> WorkloadError {
-        WorkloadError::NoMemory
+    fn from(_error: NoMemory) -> Stop {
+        Stop::NoMemory
     }
 }
 
-/// The empty text, which is the user's name.
+impl From<Stop> for WorkloadError {
+    ghost use Rattle.std.specs.Prelude.{◌≡◌, ◌⊎◌};
+    ghost use Rattle.cj_workload.specs.declared.playing.WorkloadError.TheVariants as errors;
+
+    ghost from_gives = { λ _ e. (e ≡ errors.LogFault) ⊎ (e ≡ errors.NoMemory) };
+
+    fn from(stop: Stop) -> WorkloadError {
+        match stop {
+            Stop::LogFault => WorkloadError::LogFault,
+            Stop::NoMemory => WorkloadError::NoMemory,
+        }
+    }
+}
+
+/// The user's name of a workload's session: the empty text.
 fn nobody(alloc: Global) -> Text
     ensures { result ≡ [] }
 {
@@ -68,8 +94,32 @@ fn tells_want(reply: &Reply) -> bool
     }
 }
 
-/// A write of the session.
-fn write<B: Backend, S: Store>(solo: &mut Solo<B, S>, user: &Text, act: Act) -> Result<(), NoMemory>
+/// Whether the reply says that the log's store failed.
+fn tells_log_failure(reply: &Reply) -> bool
+    ensures { result ≡ solos.tells_log_failure reply.now }
+{
+    match reply {
+        Reply::Refused(refusal) => refusal.code == LOG_FAULT,
+        _ => false,
+    }
+}
+
+/// Goes on after this reply, unless it says that memory was wanting or that the log's store failed.
+fn go_on(reply: &Reply) -> Result<(), Stop>
+    ensures fed { OnOk result (workload.tells_want reply.now ≡ false) }
+    ensures logged { OnOk result (solos.tells_log_failure reply.now ≡ false) }
+{
+    if tells_want(reply) {
+        return Err(Stop::NoMemory);
+    }
+    if tells_log_failure(reply) {
+        return Err(Stop::LogFault);
+    }
+    Ok(())
+}
+
+/// Asks for a write of the session. It also stops where a backend ran out of memory in an entry that others took.
+fn write<B: Backend, S: Store>(solo: &mut Solo<B, S>, user: &Text, act: Act) -> Result<(), Stop>
     requires user { user.now ≡ [] }
     requires room { (session_at solo.old.world.core solo.old.session).requests < REQUEST_LIMIT }
     requires written { IsWritten (request_of act) }
@@ -77,19 +127,20 @@ fn write<B: Backend, S: Store>(solo: &mut Solo<B, S>, user: &Text, act: Act) -> 
     ensures turn { IfOk result (λ _. TakesTurn B.tells solo.old (request_of act) solo.new) }
     ensures keeps { IfOk result (λ _. KeepsSolo 1 0 solo.old solo.new) }
 {
-    let written = Desk::<()>::write(solo, &(), user, 0, act);
-    if tells_want(&written.reply) {
-        return Err(NoMemory);
+    let (reply, starved) = solo.write_telling_starved(user, 0, act);
+    go_on(&reply)?;
+    if starved != 0 {
+        return Err(Stop::NoMemory);
     }
     Ok(())
 }
 
-/// A read of the session.
+/// Asks for a read of the session.
 fn read<B: Backend, S: Store>(
     solo: &mut Solo<B, S>,
     user: &Text,
     select: &Select,
-) -> Result<(), NoMemory>
+) -> Result<(), Stop>
     requires user { user.now ≡ [] }
     requires room { (session_at solo.old.world.core solo.old.session).requests < REQUEST_LIMIT }
     requires written { IsWritten (request.Select select.now) }
@@ -97,18 +148,16 @@ fn read<B: Backend, S: Store>(
     ensures keeps { IfOk result (λ _. KeepsSolo 1 0 solo.old solo.new) }
 {
     let reply = Desk::<()>::read(solo, &(), user, 0, select);
-    if tells_want(&reply) {
-        return Err(NoMemory);
-    }
+    go_on(&reply)?;
     Ok(())
 }
 
-/// The session's next statement.
+/// Asks for a statement of the session.
 fn take_turn<B: Backend, S: Store>(
     solo: &mut Solo<B, S>,
     user: &Text,
     statement: Statement,
-) -> Result<(), NoMemory>
+) -> Result<(), Stop>
     requires user { user.now ≡ [] }
     requires room { (session_at solo.old.world.core solo.old.session).requests < REQUEST_LIMIT }
     requires written { IsWritten (request_of_statement statement) }
@@ -121,13 +170,14 @@ fn take_turn<B: Backend, S: Store>(
     }
 }
 
-/// Round `i`: a backend may be armed, the statement is answered, and each backend that is out then is brought back.
+/// Plays round `i`: a backend may be armed, the statement is answered, and each backend that is out then is brought
+/// back. Answers how many backends were enabled in the round.
 fn round<B: Backend, S: Store>(
     solo: &mut Solo<B, S>,
     user: &Text,
     i: u64,
     statement: Statement,
-) -> Result<u64, NoMemory>
+) -> Result<u64, Stop>
     requires user { user.now ≡ [] }
     requires room { (session_at solo.old.world.core solo.old.session).requests < REQUEST_LIMIT }
     requires written { IsWritten (request_of_statement statement) }
@@ -137,17 +187,18 @@ fn round<B: Backend, S: Store>(
 {
     arm(solo, i)?;
     take_turn(solo, user, statement)?;
-    repair_each(solo)
+    let enabled = repair_each(solo)?;
+    Ok(enabled)
 }
 
-/// So many rounds. Answers how many backends were enabled in them.
+/// Plays `count` rounds, with the statements of the seed. Answers how many backends were enabled in them.
 fn rounds<B: Backend, S: Store>(
     solo: &mut Solo<B, S>,
     alloc: Global,
     user: &Text,
     seed: u64,
     count: u64,
-) -> Result<u64, NoMemory>
+) -> Result<u64, Stop>
     requires user { user.now ≡ [] }
     requires few { count < 2 ^ 32 }
     requires room { (session_at solo.old.world.core solo.old.session).requests + count ≤ REQUEST_LIMIT }
@@ -164,12 +215,12 @@ fn rounds<B: Backend, S: Store>(
     Ok(enabled)
 }
 
-/// The table is made, and dumped at its first host.
+/// Makes the table, and dumps its first host, if it has one.
 fn begin<B: Backend, S: Store>(
     solo: &mut Solo<B, S>,
     alloc: Global,
     user: &Text,
-) -> Result<(), NoMemory>
+) -> Result<(), Stop>
     requires user { user.now ≡ [] }
     requires room { (session_at solo.old.world.core solo.old.session).requests < REQUEST_LIMIT }
     ensures begins { IfOk result (λ _. Begins B.tells B.can_be_armed solo.old solo.new) }
@@ -186,11 +237,13 @@ fn begin<B: Backend, S: Store>(
     }
 }
 
-/// Plays the workload of so many statements, drawn from the seed, by a session of its own, and sums it up.
+/// Plays the workload of `count` statements, drawn from the seed, by a session of its own, and sums it up.
 ///
-/// A table is made and dumped at its first host. Then come the statements, one after another; before some of them a backend is
-/// armed, and behind each one the backends that are out are brought back from the dump. Want of memory ends it, also where it is a
-/// backend's.
+/// A table is made, and its first host is dumped. Then the statements are asked for, one after another. Before some of
+/// them a backend is armed. After each one the backends that are out are brought back from the dump.
+///
+/// `LogFault`: the log's store failed. `NoMemory`: memory ran out, be it at one backend in an entry that others took.
+/// `Untold`: the table's enabled hosts could not be asked at the end. An error leaves nothing of the world.
 pub fn play<B: Backend + Drop, S: Store + Drop>(
     alloc: Global,
     world: World<B, S>,

@@ -1,4 +1,4 @@
-//! The statements of the workload, over one table of a key and a number.
+//! The statements of a workload, over one table of a key and a number.
 
 ghost use Rattle.std.specs.Prelude.{◌≡◌, ◌∷◌, ◌<◌, ◌≤◌, ◌^◌, [], None, IfOk};
 ghost use Rattle.cj_workload.specs.Statements as spec;
@@ -11,14 +11,14 @@ use cj_model::{
 use cj_outside::{Draw, PcgDraw};
 use std::alloc::Global;
 
-/// A statement of the workload.
+/// A statement of a workload.
 #[derive(Drop)]
 pub enum Statement {
     Change(Write),
     Query(Select),
 }
 
-/// The name of one letter.
+/// The name that is one letter, `a` to `z`.
 pub fn letter(b: u8) -> Name
     requires { (97 ≤ b) × (b ≤ 122) }
     ensures { result ≡ b ∷ [] }
@@ -29,7 +29,7 @@ pub fn letter(b: u8) -> Name
     }
 }
 
-/// The name of the table.
+/// The name of the workload's table: `g`.
 pub fn table() -> Name
     ensures { result ≡ table_name }
 {
@@ -140,7 +140,8 @@ fn query(alloc: Global, item: Item, cond: Option<Cond>) -> Result<Select, NoMemo
     })
 }
 
-/// Statement `i`, which draws one number or none.
+/// Makes statement `i`, from 1 on: an INSERT, an UPDATE, a look-up by key and a count of the rows, in turn. It draws
+/// one number, and for the count none.
 pub fn next_statement(alloc: Global, i: u64, draw: &mut PcgDraw) -> Result<Statement, NoMemory>
     requires some { 0 < i }
     requires few { i < 2 ^ 32 }

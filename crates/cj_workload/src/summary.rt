@@ -1,4 +1,4 @@
-//! What a workload came to.
+//! The summary of a workload.
 
 ghost use Rattle.std.specs.Prelude.{◌≡◌, ◌+◌, true, IfOk, IsErrOf};
 ghost use Rattle.cj_cluster.specs.History.Histories.{is_free};
@@ -13,25 +13,31 @@ use cj_core::World;
 use cj_outside::Store;
 use std::alloc::Global;
 
-/// What a workload came to.
+/// The figures of a workload that was played to its end.
 #[derive(Clone, Copy)]
 pub struct Summary {
+    /// How many statements were asked for, without the CREATE.
     pub statements: u64,
     /// The length of the log.
     pub entries: u64,
-    /// Those of all backends together, up to 2^64 - 1.
+    /// How many faults all backends counted together, up to 2^64 - 1.
     pub faults: u64,
-    /// How often a backend was enabled, from the first dump on.
+    /// How often a backend was enabled after the first dump.
     pub enabled: u64,
-    /// How many rows the table has.
+    /// How many rows the workload's table has; 0 where no backend hosts it.
     pub rows: u64,
+    /// How often a query was found in the result cache.
     pub hits: u64,
+    /// How often a query was not found in the result cache.
     pub misses: u64,
-    /// Whether its enabled hosts hold the same rows of it.
+    /// Whether the enabled hosts of the table hold the same rows of it.
     pub equal: bool,
 }
 
-/// Sums up what the world came to by these statements, in which so many backends were enabled.
+/// Sums up a workload at the world that it ends with: so many statements were asked for, and backends were enabled so
+/// often meanwhile. Uses the world up.
+///
+/// `Untold`: the table has hosts, and none is enabled, or one fails as it is asked for its contents.
 pub fn sum_up<B: Backend + Drop, S: Store + Drop>(
     alloc: Global,
     world: World<B, S>,
@@ -49,10 +55,6 @@ pub fn sum_up<B: Backend + Drop, S: Store + Drop>(
     let mask = hosts & world.enabled();
     let backends = world.into_backends().into_vec();
     let faults = count_faults(&backends);
-    // A backend that was brought back had failed, which it has counted, or had wanted memory.
-    if enabled > faults {
-        return Err(WorkloadError::NoMemory);
-    }
     if hosts != 0 && mask == 0 {
         return Err(WorkloadError::Untold);
     }

@@ -56,6 +56,7 @@ pub record OnlyReplays (old now : WorldState) : Type 0 where
   pub setup : now.setup ≡ old.setup
   pub recovery_log : now.recovery_log ≡ old.recovery_log
   pub cache : now.cache ≡ old.cache
+  pub balance : now.balance ≡ old.balance
 
 -- the backend carried out the entry after its position, or failed in it, and no other backend has changed
 pub record TookNext (old now : WorldState) (b : ℕ) : Type 0 where
@@ -94,6 +95,7 @@ pub record OnlyTakes (old now : WorldState) : Type 0 where
   pub setup : now.setup ≡ old.setup
   pub recovery_log : now.recovery_log ≡ old.recovery_log
   pub cache : now.cache ≡ old.cache
+  pub balance : now.balance ≡ old.balance
 
 -- the backend is as before, also in the mask of those that failed
 pub record IsUntouched (old now : WorldState) (b : ℕ) : Type 0 where
@@ -153,8 +155,10 @@ pub record IsSameCluster (old now : WorldState) : Type 0 where
   pub placement : now.core.placement ≡ old.core.placement
   pub sessions : now.core.sessions ≡ old.core.sessions
   pub greatest : now.core.greatest ≡ old.core.greatest
+  pub dumps : now.core.dumps ≡ old.core.dumps
   pub setup : now.setup ≡ old.setup
   pub cache : now.cache ≡ old.cache
+  pub balance : now.balance ≡ old.balance
 
 -- the administrator ended the transaction, by an entry that has ended
 pub record TransactionEnded (tx : ℕ) (old now : WorldState) : Type 0 where

@@ -31,9 +31,10 @@ IsOutside (act.Write w) = Unit {0}
 IsOutside (act.Create c) = Unit {0}
 IsOutside _ = ⊥
 
--- From a to z the session made so many requests, and backends were enabled so often.
-pub record KeepsSolo (requests enabled : ℕ) (a z : SoloState) : Type 0 where
+-- From a to z the session made so many requests, and backends were enabled so often. The log's store failed in nothing.
+pub record KeepsSolo (asked enabled : ℕ) (a z : SoloState) : Type 0 where
   pub placement : z.world.core.placement ≡ a.world.core.placement
   pub session : z.session ≡ a.session
-  pub requests : (session_at z.world.core z.session).requests ≡ (session_at a.world.core a.session).requests + requests
+  pub requests : (session_at z.world.core z.session).requests ≡ (session_at a.world.core a.session).requests + asked
   pub counted : enablings z.world.core.history ≡ enablings a.world.core.history + enabled
+  pub log_faults : z.world.recovery_log.faults ≡ a.world.recovery_log.faults

@@ -56,7 +56,7 @@ loop-m-preserved g c =
     let is = c.m-item.is ∙ ap (λ (xs : List Move). get_or xs c.loop-m.m-index c.m-item.result) c.as_slice-m-items.ensures in
     let more =
     making_more g.B.Backend.tells g.B.Backend.can_be_armed c.args.state.now c.args.moves.now c.loop-m.m-index c.m-item.result c.loop-m.made.items c.loop-m.state c.in-Ok-make_copy.came c.make_copy.new.state (omega arith) is
-    c.loop-m.invariant.making (record { moves = c.in-Ok-make_copy.ensures.made; causes = c.in-Ok-make_copy.ensures.causes; log_causes = c.in-Ok-make_copy.ensures.log_causes; armings = c.in-Ok-make_copy.ensures.armings; logins = c.in-Ok-make_copy.ensures.logins; setup = c.make_copy.ensures.setup })
+    c.loop-m.invariant.making (record { moves = c.in-Ok-make_copy.ensures.made; causes = c.in-Ok-make_copy.ensures.causes; log_causes = c.in-Ok-make_copy.ensures.log_causes; armings = c.in-Ok-make_copy.ensures.armings; logins = c.in-Ok-make_copy.ensures.logins; cache = c.in-Ok-make_copy.ensures.cache; setup = c.make_copy.ensures.setup })
     in
     record {
       making =

@@ -33,5 +33,6 @@ returns-clause-played g c =
       begins = subst (λ (s : SoloState). Begins tells armable s begun) c.in-Ok.ensures.opened c.in_ok-begin.ensures.begins;
       ended = ended;
       rounds = c.in_ok-enabled.ensures.plays;
+      log_faults = c.in_ok-enabled.ensures.keeps.log_faults ∙ (c.in_ok-begin.ensures.keeps.1.log_faults ∙ ap (λ (s : SoloState). s.world.recovery_log.faults) c.in-Ok.ensures.opened);
       summary = record { statements = i.statements; entries = i.entries; faults = i.faults; enabled = i.enabled; rows = i.rows; hits = i.hits; misses = i.misses; equal = i.equal };
     }
