@@ -17,7 +17,7 @@ starved_read user asker q tx r reply fits replied =
       placement = refl;
       admits = refl;
       session = refl;
-      queries = refl;
+      requests = refl;
       number = refl;
       turn =
           record {

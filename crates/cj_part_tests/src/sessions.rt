@@ -108,7 +108,7 @@ fn each_kind_of_message(rt: HostRuntime) -> Result<(), Fail> {
     let Some(user) = Text::of(b"ann".to_vec(alloc)?) else {
         return Err(Fail::from("a text"));
     };
-    let mut desk = StarvedDesk { user, queries: 0 };
+    let mut desk = StarvedDesk { user, requests: 0 };
     let mut source = MemSource::new(input, Vec::new(alloc));
     let mut sink = MemSink::new(Vec::new(alloc), Vec::new(alloc));
     let mut draws = ListDraw::new(Vec::new(alloc));
