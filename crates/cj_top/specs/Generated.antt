@@ -41,6 +41,6 @@ pub record RunsGen (c : Conf) (seed count : ℕ) (held held' : Option (List ℕ)
   pub bytes : WritesAll held held' (summary_text summary) answer
   pub status_is : status ≡ status_of_listing answer
 
--- `gen` with this configuration: a workload was played, or it ended without a summary, and nothing was touched (`Quiet`)
-abbrev pub ComesByGen : (c : Conf) (seed count : ℕ) (Quiet : Type 0) (held held' : Option (List ℕ)) → ℕ → Type 0
-ComesByGen c seed count Quiet held held' status = RunsGen c seed count held held' status ⊎ (status ≡ 1) × Quiet
+-- `gen` with this configuration: a workload was played, or it ended without a summary, and nothing was touched (`Quiet`). The log's store that was handed in is given back as it was (`Same`).
+abbrev pub ComesByGen : (c : Conf) (seed count : ℕ) (Same Quiet : Type 0) (held held' : Option (List ℕ)) → ℕ → Type 0
+ComesByGen c seed count Same Quiet held held' status = Same × (RunsGen c seed count held held' status ⊎ (status ≡ 1) × Quiet)

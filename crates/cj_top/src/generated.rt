@@ -7,7 +7,7 @@ ghost use Rattle.cj_outside.specs.Streams.{WritesAll};
 ghost use Rattle.cj_core.specs.Starts.{state_by};
 ghost use Rattle.cj_top.specs.Configured.{AreNew, in_memory};
 ghost use Rattle.cj_top.specs.Generated as spec;
-ghost use Rattle.cj_top.specs.Generated.{ComesByGen, GeneratesAsConfigured, count_line, summary_text};
+ghost use Rattle.cj_top.specs.Generated.{GeneratesAsConfigured, RunsGen, count_line, summary_text};
 ghost use Rattle.cj_args.specs.declared.parts.TheConstants.{COUNT_LIMIT};
 
 use crate::configured::{any_backends, are_in_memory, memory_backends};
@@ -97,11 +97,12 @@ fn write_summary<O: Sink>(alloc: Global, summary: &Summary, output: &mut O) -> R
     }
 }
 
-/// The command `gen` with this configuration; the answer is the exit status.
+/// The command `gen` with this configuration: plays the workload of the seed and the count, and writes its summary. Answers the exit
+/// status: 0, or 6 where the output failed, or 1 where memory was wanting or no host of the table could be asked in the end.
 pub fn run_gen<O: Sink>(alloc: Global, conf: Conf, seed: u64, count: u64, output: &mut O) -> u8
     requires usable { IsUsable conf }
     requires few { count ≤ COUNT_LIMIT }
-    ensures comes { ComesByGen conf seed count (output.new ≡ output.old) (O.held output.old) (O.held output.new) result }
+    ensures comes { RunsGen conf seed count (O.held output.old) (O.held output.new) result ⊎ (result ≡ 1) × (output.new ≡ output.old) }
     ensures output { CountsFault (result ≡ 6) (O.faults output.old) (O.faults output.new) }
     ensures other { (result ≡ 0) ⊎ (result ≡ 1) ⊎ (result ≡ 6) }
 {

@@ -53,7 +53,7 @@ fn main(rt: HostRuntime) -> ExitCode {
     let mut output = StdSink::new(Patient::new(rt.stdout(), rt));
     let mut errors = StdSink::new(Patient::new(rt.stderr(), rt));
     let clock = SystemClock::new(rt);
-    ExitCode::from(run(
+    let ended = run(
         rt.alloc(),
         &words,
         &mut conf,
@@ -62,5 +62,6 @@ fn main(rt: HostRuntime) -> ExitCode {
         &mut output,
         &mut errors,
         &clock,
-    ))
+    );
+    ExitCode::from(ended.status)
 }
