@@ -47,7 +47,8 @@ abbrev pub end_by_rest : Option FrameFault → Bool → List ℕ → SessionEnd
 end_by_rest (Some fault) short rest = ends.BadFrame fault
 end_by_rest None short rest = if short then end_of_short rest else ends.Spent
 
--- How a session ends over an input that reads as these messages and this rest: by the first Quit; where there is none, by the rest.
+-- How a session ends over an input that reads as these messages and this rest: by the first Quit; where there is
+-- none, by the rest.
 abbrev pub end_of_reading : Bool → List Message → List ℕ → SessionEnd
 end_of_reading short messages rest = if list_any is_quit messages then ends.Quit else end_by_rest (fault_of rest) short rest
 
@@ -73,7 +74,8 @@ is_end_by_input ends.WriteFault = false
 is_end_by_input ends.Spent = true
 is_end_by_input ends.NoMemory = false
 
--- A session that its input ended answered all of it: with these replies, one to each message before the first Quit, and one to a faulty frame, all written whole. Where the input tells its bytes, they fix the end.
+-- A session that its input ended answered all of it: with these replies, one to each message before the first Quit,
+-- and one to a faulty frame, all written whole. Where the input tells its bytes, they fix the end.
 pub record AnswersInput (replies : List Reply) (left held held' : Option (List ℕ)) (ending : SessionEnd) : Type 0 where
   pub wrote : Appends held held' (flat_map reply_bytes (replies ++ replies_at_end ending))
   pub as_read : IfSome left (λ bytes. (messages : List Message) (rest : List ℕ) → Frames (take most bytes) messages rest
@@ -102,7 +104,8 @@ pub record IsFirstWrong (names : List (List ℕ)) (lines : List (List ℕ)) (num
   pub wrong : IsWrong names line
   pub number_is : number ≡ length before + 1
 
--- How a script ends over these lines: behind the last where each can be played, or at the first that can't. Over an input that isn't short it may end before either.
+-- How a script ends over these lines: behind the last where each can be played, or at the first that can't. Over an
+-- input that isn't short it may end before either.
 abbrev pub EndsAtLine : List (List ℕ) → Bool → List (List ℕ) → ScriptEnd → Type 0
 EndsAtLine names short lines script_ends.Done = (short ≡ true) × All (IsPlayable names) lines
 EndsAtLine names short lines (script_ends.Line number) = IsFirstWrong names lines number
@@ -126,7 +129,8 @@ PlaysInput names left ending = IfSome left (λ bytes. (lines : List (List ℕ)) 
 
 -- ---- a log
 
--- The command goes on from a log with these items: `log` lists any, and `gen` opens none. For `script` they open to a history, and for `pipe` to one that leaves the number of a session.
+-- The command goes on from a log with these items: `log` lists any, and `gen` opens none. For `script` they open to a
+-- history, and for `pipe` to one that leaves the number of a session.
 abbrev pub GoesOnFrom : Command → List LogItem → Type 0
 GoesOnFrom (Pipe path) items = (h : List Event) × OpensTo items h × (greatest_session (log h) < SESSION_NUMBER_LIMIT)
 GoesOnFrom (Script path) items = (h : List Event) × OpensTo items h

@@ -23,19 +23,22 @@ Found tells held items = tells ≡ true → KeepsItems held items
 
 -- ---- the store that is given back
 
--- The store is that of this world's log: it has counted the faults and holds the bytes that the world sees. They keep the world's history, and so does whatever a stop at this moment leaves of them.
+-- The store is that of this world's log: it has counted the faults and holds the bytes that the world sees. They keep
+-- the world's history, and so does whatever a stop at this moment leaves of them.
 pub record IsLogOf {S : Type 0} (faults : S → ℕ) (held : S → List ℕ) (may : S → List ℕ → Type 0) (tells : Bool) (w : WorldState) (after : S) : Type 0 where
   pub counts : faults after ≡ w.recovery_log.faults
   pub bytes : held after ≡ w.recovery_log.bytes
   pub kept : tells ≡ true → IsKeptIn (held after) w.core.history
   pub stop : tells ≡ true → (image : List ℕ) → may after image → IsKeptIn image w.core.history
 
--- A command went from a first world to a last one over the log's store: the first counted on from the store that was handed in, and the store that is given back is that of the last.
+-- A command went from a first world to a last one over the log's store: the first counted on from the store that was
+-- handed in, and the store that is given back is that of the last.
 pub record GoesOnIn {S : Type 0} (faults : S → ℕ) (held : S → List ℕ) (may : S → List ℕ → Type 0) (tells : Bool) (log after : S) (first last : WorldState) : Type 0 where
   pub begins : first.recovery_log.faults ≡ faults log
   pub leaves : IsLogOf faults held may tells last after
 
--- A command that only reads the log came to this status: of a new file the first bytes were written, and nothing else was. A fault was counted exactly at status 7.
+-- A command that only reads the log came to this status: of a new file the first bytes were written, and nothing else
+-- was. A fault was counted exactly at status 7.
 pub record ReadsLog {S : Type 0} (faults : S → ℕ) (held : S → List ℕ) (tells : Bool) (log after : S) (status : ℕ) : Type 0 where
   pub bytes : tells ≡ true → WritesOnlyNew (held log) (held after)
   pub cause : CountsFault (status ≡ 7) (faults log) (faults after)
@@ -51,13 +54,16 @@ bad_record_line offset = with_line_feed (words (codes "bad" ∷ codes "record:" 
 abbrev pub bad_entry_line : ℕ → List ℕ
 bad_entry_line number = with_line_feed (words (codes "bad" ∷ codes "entry:" ∷ decimal number ∷ []))
 
--- A line was written to the errors, or they failed in it, which they counted, or memory was wanting for it. `before` and `now` are the errors' counts of faults.
+-- A line was written to the errors, or they failed in it, which they counted, or memory was wanting for it. `before`
+-- and `now` are the errors' counts of faults.
 pub record TellsLine (errors errors' : Option (List ℕ)) (before now : ℕ) (line : List ℕ) : Type 0 where
   pub answer : Result (Unit {0}) OutError
   pub bytes : WritesAll errors errors' line answer
   pub cause : CountsFault (IsErrOf answer out_errors.Failed) before now
 
--- Why a log was not opened: its store failed, which it counted, or its bytes are no log's, where it tells them, or memory was wanting. The store that is given back has lost nothing, and holds what it held where its bytes are no log's.
+-- Why a log was not opened: its store failed, which it counted, or its bytes are no log's, where it tells them, or
+-- memory was wanting. The store that is given back has lost nothing, and holds what it held where its bytes are no
+-- log's.
 pub record RefusesLog {S : Type 0} (faults : S → ℕ) (held : S → List ℕ) (tells : Bool) (log after : S) (error : StartError) : Type 0 where
   pub bytes : tells ≡ true → RefusesBytes {W = WorldState} held (held log) (Err (error, after))
   pub cause : CountsFaultOfStart faults (faults log) (Err (error, after))

@@ -57,7 +57,8 @@ pub record ServesOneSession (tells : Bool) (seed : ℕ) (moment : Option ℤ) (l
   -- no count of faults falls
   pub grown : CanCountMore (faults_of first.cells) → (b : ℕ) → slice_index_or (faults_of first.cells) b 0 ≤ slice_index_or (faults_of last.cells) b 0
 
--- Over the log that was found no session can be opened: the last number was given. `GoesOn` says how the log's store went on.
+-- Over the log that was found no session can be opened: the last number was given. `GoesOn` says how the log's store
+-- went on.
 pub record HasNoSession (found : List LogItem → Type 0) (GoesOn : WorldState → WorldState → Type 0) (p : Placement) (backends : List BackendState) : Type 0 where
   pub first : WorldState
   pub starts : StartsFrom found p backends first
@@ -69,7 +70,8 @@ abbrev pub RefusesPipe : {S : Type 0} → (S → ℕ) → (S → List ℕ) → (
 RefusesPipe faults held may tells log after p backends (pipe_error.Start error) = RefusesLog faults held tells log after error
 RefusesPipe faults held may tells log after p backends pipe_error.SessionsFull = HasNoSession (Found tells (held log)) (GoesOnIn faults held may tells log after) p backends
 
--- A session over new backends, as the configuration has them, and over the log that was found, ended with this status. `tells`: the backends are in memory, and tell what they hold. `GoesOn` says how the log's store went on.
+-- A session over new backends, as the configuration has them, and over the log that was found, ended with this
+-- status. `tells`: the backends are in memory, and tell what they hold. `GoesOn` says how the log's store went on.
 pub record RunsPipe (tells : Bool) (c : Conf) (found : List LogItem → Type 0) (GoesOn : WorldState → WorldState → Type 0) (moment : Option ℤ) (left left' held held' : Option (List ℕ)) (status : ℕ) : Type 0 where
   pub first : WorldState
   pub begins : BeginsAsConfigured tells c found first
@@ -81,7 +83,8 @@ pub record RunsPipe (tells : Bool) (c : Conf) (found : List LogItem → Type 0) 
   pub blameless : tells ≡ true → All BlamesNobody serves.served.transcript.replies
   pub status_is : status ≡ status_of_session ending
 
--- `pipe` with this configuration: a session ran, or the command stopped at its log, or no session can be opened. `Idle`: the input and the output were not touched; `Quiet`: nor were the errors.
+-- `pipe` with this configuration: a session ran, or the command stopped at its log, or no session can be opened.
+-- `Idle`: the input and the output were not touched; `Quiet`: nor were the errors.
 abbrev pub ComesByPipe : (c : Conf) (found : List LogItem → Type 0) (GoesOn : WorldState → WorldState → Type 0) (Stops : ℕ → Type 0) (Quiet : Type 0) (moment : Option ℤ) (left left' held held' : Option (List ℕ)) → ℕ → Type 0
 ComesByPipe c found GoesOn Stops Quiet moment left left' held held' status =
     RunsPipe (in_memory c) c found GoesOn moment left left' held held' status ⊎ Stops status ⊎ (status ≡ 12) × HasNoSession found GoesOn (placement_of c.placement) (replicate (length c.placement.names) (new_backend (in_memory c))) × Quiet

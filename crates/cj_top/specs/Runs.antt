@@ -38,12 +38,16 @@ pub record RunsConfigured (tells : Bool) (held : List ℕ) (Runs : Conf → Type
   pub accepted : conf_of bytes ≡ Ok conf
   pub runs : Runs conf
 
--- The configuration's store failed or memory was wanting, and nothing else was touched (`Quiet`); or the configuration was refused, and the input, the output and the log were not touched (`Idle`); or the command ran.
+-- The configuration's store failed or memory was wanting, and nothing else was touched (`Quiet`); or the
+-- configuration was refused, and the input, the output and the log were not touched (`Idle`); or the command ran.
 abbrev pub RunsCommand : Bool → List ℕ → (ConfError → Type 0) → Type 0 → Type 0 → (Conf → Type 0) → ℕ → Type 0
 RunsCommand tells held Tells Idle Quiet Runs status =
     (((status ≡ 7) ⊎ (status ≡ 1)) × Quiet) ⊎ RefusesConf tells held Tells Idle status ⊎ RunsConfigured tells held Runs
 
--- What a command comes to with this configuration, over the log that was found. Of the log's store `GoesOn` says how it went on under a world, `Reads` that it was only read, and `Same` that it was not touched. `Stops` says how the command stops at its log, and `Quiet` that nothing was touched; `before` and `now` are the errors' counts of faults.
+-- What a command comes to with this configuration, over the log that was found. Of the log's store `GoesOn` says how
+-- it went on under a world, `Reads` that it was only read, and `Same` that it was not touched. `Stops` says how the
+-- command stops at its log, and `Quiet` that nothing was touched; `before` and `now` are the errors' counts of
+-- faults.
 abbrev pub ComesBy : Command → (c : Conf) (found : List LogItem → Type 0) (GoesOn : WorldState → WorldState → Type 0) (Reads : ℕ → Type 0) (Same : Type 0) (Stops : ℕ → Type 0) (Quiet : Type 0) (moment : Option ℤ) (left left' held held' errors errors' : Option (List ℕ)) (before now : ℕ) → ℕ → Type 0
 ComesBy (Pipe path) c found GoesOn Reads Same Stops Quiet moment left left' held held' errors errors' before now status = ComesByPipe c found GoesOn Stops Quiet moment left left' held held' status
 ComesBy (Script path) c found GoesOn Reads Same Stops Quiet moment left left' held held' errors errors' before now status = ComesByScript c found GoesOn Stops left left' held held' errors errors' before now status

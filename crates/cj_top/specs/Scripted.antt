@@ -28,12 +28,16 @@ pub record WritesName (errors errors' : Option (List ℕ)) (before now number : 
   pub bytes : WritesAll errors errors' (line_text number) answer
   pub cause : CountsFault (IsErrOf answer out_errors.Failed) before now
 
--- A line that can't be played is named, and at another end nothing is written; `before` and `now` are the errors' counts of faults.
+-- A line that can't be played is named, and at another end nothing is written; `before` and `now` are the errors'
+-- counts of faults.
 abbrev pub NamesLine : (errors errors' : Option (List ℕ)) → (before now : ℕ) → ScriptEnd → Type 0
 NamesLine errors errors' before now (end.Line number) = WritesName errors errors' before now number
 NamesLine errors errors' before now ending = (errors' ≡ errors) × (now ≡ before)
 
--- A script over new backends, as the configuration has them, and over the log that was found, came to this end; `tells`: the backends are in memory, and tell what they hold. `GoesOn` says how the log's store went on. The replies to each session in it are a chain of turns of one database, from where it has seen the start and needs no entry.
+-- A script over new backends, as the configuration has them, and over the log that was found, came to this end;
+-- `tells`: the backends are in memory, and tell what they hold. `GoesOn` says how the log's store went on. The
+-- replies to each session in it are a chain of turns of one database, from where it has seen the start and needs no
+-- entry.
 pub record PlaysAsConfigured (tells : Bool) (c : Conf) (found : List LogItem → Type 0) (GoesOn : WorldState → WorldState → Type 0) (left left' held held' : Option (List ℕ)) (ending : ScriptEnd) : Type 0 where
   pub first : WorldState
   pub begins : BeginsAsConfigured tells c found first
@@ -45,7 +49,8 @@ pub record PlaysAsConfigured (tells : Bool) (c : Conf) (found : List LogItem →
   pub whole : is_script_end_by_input ending ≡ true → PlaysInput c.placement.names left ending
   pub goes_on : GoesOn first last
 
--- A run of `script` with this status; `before` and `now` are the errors' counts of faults. Where the input or an output tells nothing, this says nothing of its bytes.
+-- A run of `script` with this status; `before` and `now` are the errors' counts of faults. Where the input or an
+-- output tells nothing, this says nothing of its bytes.
 pub record RunsScript (c : Conf) (found : List LogItem → Type 0) (GoesOn : WorldState → WorldState → Type 0) (left left' held held' errors errors' : Option (List ℕ)) (before now status : ℕ) : Type 0 where
   pub ending : ScriptEnd
   pub status_is : status ≡ status_of_script ending

@@ -97,8 +97,9 @@ fn write_summary<O: Sink>(alloc: Global, summary: &Summary, output: &mut O) -> R
     }
 }
 
-/// The command `gen` with this configuration: plays the workload of the seed and the count, and writes its summary. Answers the exit
-/// status: 0, or 6 where the output failed, or 1 where memory was wanting or no host of the table could be asked in the end.
+/// The command `gen` with this configuration: plays the workload of the seed and the count, and writes its summary.
+/// Answers the exit status: 0, or 6 where the output failed, or 1 where memory was wanting or no host of the table
+/// could be asked in the end.
 pub fn run_gen<O: Sink>(alloc: Global, conf: Conf, seed: u64, count: u64, output: &mut O) -> u8
     requires usable { IsUsable conf }
     requires few { count ≤ COUNT_LIMIT }

@@ -30,7 +30,8 @@ fn start_error(error: RecordsError) -> StartError
     }
 }
 
-/// The items of the store's log, which are not looked at as a history. Gives the store back, in which only a new file is written.
+/// The items of the store's log, which are not looked at as a history. Gives the store back, in which only a new file
+/// is written.
 fn items_found<S: Store + Drop>(alloc: Global, store: S) -> Result<(LogItems, S), (StartError, S)>
     requires { S.tells ≡ true → Only (S.held store) (S.may store) }
     ensures found { IfOk result (λ (items, _). Found S.tells (S.held store) items) }
@@ -57,8 +58,8 @@ pub fn status_of_listing(answer: Result<(), OutError>) -> u8
     }
 }
 
-/// The command `log` with this configuration: lists the items that the log's store holds. Answers the exit status, and gives the
-/// store back, in which at most the bytes of a new file were written. On an error nothing was listed.
+/// The command `log` with this configuration: lists the items that the log's store holds. Answers the exit status,
+/// and gives the store back, in which at most the bytes of a new file were written. On an error nothing was listed.
 pub fn run_log<S: Store + Drop, O: Sink>(
     alloc: Global,
     conf: Conf,

@@ -45,8 +45,8 @@ pub enum PipeError {
     SessionsFull,
 }
 
-/// Serves one session at the world, and closes it. It takes no memory of its own. Where no session can be opened, it gives the
-/// log's store back.
+/// Serves one session at the world, and closes it. It takes no memory of its own. Where no session can be opened, it
+/// gives the log's store back.
 fn serve_one<B: Backend + Drop, S: Store + Drop, I: Source, O: Sink, C: Clock>(
     alloc: Global,
     world: World<B, S>,
@@ -74,11 +74,11 @@ fn serve_one<B: Backend + Drop, S: Store + Drop, I: Source, O: Sink, C: Clock>(
     Ok((end, desk.close()))
 }
 
-/// One session over the input and the output, at a world of these backends and this log, as the configuration has them. Gives the
-/// world back.
+/// One session over the input and the output, at a world of these backends and this log, as the configuration has
+/// them. Gives the world back.
 ///
-/// On an error there was no session, and the input and the output were not touched. The log's store is given back, and has lost
-/// nothing. Want of memory in a session is an end of its own.
+/// On an error there was no session, and the input and the output were not touched. The log's store is given back,
+/// and has lost nothing. Want of memory in a session is an end of its own.
 pub fn pipe<B: Backend + Drop, S: Store + Drop, I: Source, O: Sink, C: Clock>(
     alloc: Global,
     conf: Conf,
@@ -136,7 +136,8 @@ fn show_none(cells: &[Cell<MemBackend>])
     }
 }
 
-/// Gives up a world over backends in memory, by its log's store. That it is taken apart shows that they have counted no fault.
+/// Gives up a world over backends in memory, by its log's store. That it is taken apart shows that they have counted
+/// no fault.
 fn log_over_memory<S: Store + Drop>(world: World<MemBackend, S>) -> S
     ensures left { IsLogOf S.faults S.held S.may S.tells world result }
     ensures none { (b : ℕ) → slice_index_or (faults_of world.cells) b 0 ≡ 0 }
@@ -147,8 +148,8 @@ fn log_over_memory<S: Store + Drop>(world: World<MemBackend, S>) -> S
     book.into_log()
 }
 
-/// The command `pipe` with this configuration: serves one session over the log. Answers the exit status of its end, and gives the
-/// log's store back. On an error there was no session, and the log has lost nothing.
+/// The command `pipe` with this configuration: serves one session over the log. Answers the exit status of its end,
+/// and gives the log's store back. On an error there was no session, and the log has lost nothing.
 pub fn run_pipe<S: Store + Drop, I: Source, O: Sink, C: Clock>(
     alloc: Global,
     conf: Conf,

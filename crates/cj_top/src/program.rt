@@ -202,29 +202,32 @@ fn write_text<O: Sink>(text: Result<String, NoMemory>, output: &mut O) -> u8
     }
 }
 
-/// Does all that the program does, over the words after its name and what it is handed. Answers the exit status, and gives the
-/// log's store back.
+/// Does all that the program does, over the words after its name and what it is handed. Answers the exit status, and
+/// gives the log's store back.
 ///
-/// `pipe CONF` serves one session from the input to the output, over new backends as the configuration has them. Its status is 0
-/// where the session ended by a Quit or after a whole frame. It is 4 where the input ended inside a frame or with a faulty one.
+/// `pipe CONF` serves one session from the input to the output, over new backends as the configuration has them. Its
+/// status is 0 where the session ended by a Quit or after a whole frame. It is 4 where the input ended inside a frame
+/// or with a faulty one.
 ///
-/// `script CONF` plays the lines of the input as moves over such backends, and writes what they come to. Its status is 0 where all
-/// were played. It is 10 where a line can't be; the number of that line is then told to `errors`, where that can be done.
+/// `script CONF` plays the lines of the input as moves over such backends, and writes what they come to. Its status
+/// is 0 where all were played. It is 10 where a line can't be; the number of that line is then told to `errors`,
+/// where that can be done.
 ///
-/// `gen CONF --seed N --count N` plays a workload of so many statements over such backends and a log in memory, and writes its
-/// summary. `log CONF` lists the items of the recovery log, whether or not they are a history's. The status of both is 0 where all
-/// was written.
+/// `gen CONF --seed N --count N` plays a workload of so many statements over such backends and a log in memory, and
+/// writes its summary. `log CONF` lists the items of the recovery log, whether or not they are a history's. The
+/// status of both is 0 where all was written.
 ///
-/// `pipe` and `script` begin with the recovery log: the backends replay it, and what comes is appended. `log` only reads it, and the
-/// other words leave it alone. Bytes that are no log's are refused with 8, which is told to `errors` where that can be done, and
-/// stay as they are. `pipe` ends with 12 where the log holds the last number of a session.
+/// `pipe` and `script` begin with the recovery log: the backends replay it, and what comes is appended. `log` only
+/// reads it, and the other words leave it alone. Bytes that are no log's are refused with 8, which is told to
+/// `errors` where that can be done, and stay as they are. `pipe` ends with 12 where the log holds the last number of
+/// a session.
 ///
-/// Each command ends with 3 where the configuration is refused, which is told to `errors` where that can be done. It ends with 5 or
-/// 6 where the input or the output failed, with 7 where the configuration's store or the log's did, with 11 where 2^62 bytes were
-/// taken, and with 1 for want of memory.
+/// Each command ends with 3 where the configuration is refused, which is told to `errors` where that can be done. It
+/// ends with 5 or 6 where the input or the output failed, with 7 where the configuration's store or the log's did,
+/// with 11 where 2^62 bytes were taken, and with 1 for want of memory.
 ///
-/// `--help`, alone or behind the word of a command, and `--version` write their text: 0 where it was written whole. With other words
-/// the status is 2, and nothing is touched.
+/// `--help`, alone or behind the word of a command, and `--version` write their text: 0 where it was written whole.
+/// With other words the status is 2, and nothing is touched.
 pub fn run<F: Store, S: Store + Drop, I: Source, O: Sink, E: Sink, C: Clock>(
     alloc: Global,
     words: &[String],
@@ -245,14 +248,15 @@ pub fn run<F: Store, S: Store + Drop, I: Source, O: Sink, E: Sink, C: Clock>(
     ensures other { ((asked : Asked) → AsksCommand (map string_bytes words.now) asked → ⊥) → (result.status ≡ 2) × (conf.new ≡ conf.old) × (result.log ≡ log) × (input.new ≡ input.old) × (output.new ≡ output.old) × (errors.new ≡ errors.old) }
     ensures quiet { result.status ≢ 3 → result.status ≢ 8 → result.status ≢ 10 → errors.new ≡ errors.old }
 
-    // Each counted a fault exactly where its status says so: 7 is that of the configuration's store and of the log's. What the errors counted
-    // at 3, 8 and 10 is above.
+    // Each counted a fault exactly where its status says so: 7 is that of the configuration's store and of the log's.
+    // What the errors counted at 3, 8 and 10 is above.
     ensures conf { F.tells ≡ true → F.held conf.new ≡ F.held conf.old }
     ensures stores { (result.status ≡ 7) × (F.faults conf.new ≡ next (F.faults conf.old)) × (S.faults result.log ≡ S.faults log) ⊎ (result.status ≡ 7) × (S.faults result.log ≡ next (S.faults log)) × (F.faults conf.new ≡ F.faults conf.old) ⊎ (result.status ≢ 7) × (F.faults conf.new ≡ F.faults conf.old) }
     ensures input { CountsFault (result.status ≡ 5) (I.faults input.old) (I.faults input.new) }
     ensures output { CountsFault (result.status ≡ 6) (O.faults output.old) (O.faults output.new) }
 
-    // Statuses 8 and 12 come from the log's items alone. Those of faults are above, and what the input ended is whole.
+    // Statuses 8 and 12 come from the log's items alone. Those of faults are above, and what the input ended is
+    // whole.
     ensures opens { S.tells ≡ true → (command : Command) → Says (map string_bytes words.now) command → (items : List LogItem) → KeepsItems (S.held log) items → GoesOnFrom command items → (result.status ≢ 8) × (result.status ≢ 12) }
 {
     match read(alloc, words) {

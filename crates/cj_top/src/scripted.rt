@@ -24,8 +24,8 @@ use cj_outside::{OutError, Sink, Source, Store, write_all};
 use cj_script::{ScriptEnd, script};
 use std::alloc::Global;
 
-/// Starts a world over the log, of these new backends as the configuration has them. Each can be armed then. On an error the log's
-/// store is given back, and has lost nothing.
+/// Starts a world over the log, of these new backends as the configuration has them. Each can be armed then. On an
+/// error the log's store is given back, and has lost nothing.
 pub fn flaky_world<B: Backend + Drop, S: Store + Drop>(
     alloc: Global,
     conf: Conf,
@@ -71,10 +71,11 @@ fn play_over<B: Backend + Drop, S: Store + Drop, I: Source, O: Sink>(
     Ok((end, world.into_log()))
 }
 
-/// Plays the lines of the input on a world of new backends, as the configuration has them, over the log, and writes what they come to.
-/// Gives the log's store back.
+/// Plays the lines of the input on a world of new backends, as the configuration has them, over the log, and writes
+/// what they come to. Gives the log's store back.
 ///
-/// On an error the script has not begun, and the log has lost nothing. Want of memory in a script is an end of its own.
+/// On an error the script has not begun, and the log has lost nothing. Want of memory in a script is an end of its
+/// own.
 pub fn play<S: Store + Drop, I: Source, O: Sink>(
     alloc: Global,
     conf: Conf,
@@ -118,7 +119,8 @@ fn write_name<E: Sink>(alloc: Global, number: u64, errors: &mut E) -> Result<(),
     }
 }
 
-/// Tells the errors the number of the line that can't be played, where the script ended with one. Where they fail, nothing else changes.
+/// Tells the errors the number of the line that can't be played, where the script ended with one. Where they fail,
+/// nothing else changes.
 fn name_line<E: Sink>(alloc: Global, end: ScriptEnd, errors: &mut E)
     ensures named { NamesLine (E.held errors.old) (E.held errors.new) (E.faults errors.old) (E.faults errors.new) end }
     ensures other { top.status_of_script end ≢ 10 → errors.new ≡ errors.old }
@@ -143,8 +145,8 @@ fn status_of_script(end: ScriptEnd) -> u8
     }
 }
 
-/// The command `script` with this configuration: plays the input over the log. Answers the exit status of its end, and gives the
-/// log's store back. On an error nothing was played, and the log has lost nothing.
+/// The command `script` with this configuration: plays the input over the log. Answers the exit status of its end,
+/// and gives the log's store back. On an error nothing was played, and the log has lost nothing.
 pub fn run_script<S: Store + Drop, I: Source, O: Sink, E: Sink>(
     alloc: Global,
     conf: Conf,

@@ -28,7 +28,8 @@ enablings h = count_by is_enabling h
 
 -- ---- the summary
 
--- The summary of so many statements, which led from one world to another. Where the backends tell what they hold, each enabled host of the table holds its rows in the one database.
+-- The summary of so many statements, which led from one world to another. Where the backends tell what they hold,
+-- each enabled host of the table holds its rows in the one database.
 pub record IsSummary (tells : Bool) (count : ℕ) (begun ended : WorldState) (s : Summary) : Type 0 where
   pub statements : s.statements ≡ count
   pub entries : s.entries ≡ last_number ended.core
@@ -41,7 +42,8 @@ pub record IsSummary (tells : Bool) (count : ℕ) (begun ended : WorldState) (s 
   pub misses : s.misses ≡ ended.cache.misses
   pub equal : tells ≡ true → s.equal ≡ true
 
--- From this world the workload of so many statements, drawn from the seed, was played, and came to this summary. The log's store failed in nothing.
+-- From this world the workload of so many statements, drawn from the seed, was played, and came to this summary. The
+-- log's store failed in nothing.
 pub record PlaysWorkload (tells armable : Bool) (seed count : ℕ) (first : WorldState) (s : Summary) : Type 0 where
   pub begun : SoloState
   pub begins : Begins tells armable (session_opened first) begun

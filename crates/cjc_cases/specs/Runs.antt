@@ -66,8 +66,8 @@ pub record KeepsPromises (words : List (List ℕ)) (log after : State) (moment :
   pub output : CountsFault (status ≡ 6) a.output.faults z.output.faults
   pub opens : true ≡ true → (command : Command) → Says words command → (items : List LogItem) → KeepsItems log.bytes items → GoesOnFrom command items → (status ≢ 8) × (status ≢ 12)
 
--- A run of the case gave this: its status, what it wrote and what it left of the log are those of the program over the
--- objects of the case.
+-- A run of the case gave this: its status, what it wrote and what it left of the log are those of the program over
+-- the objects of the case.
 pub record GivesAsRun (c : CaseState) (outcome : Outcome) : Type 0 where
   pub left : Objects
   pub log : State
