@@ -64,6 +64,13 @@ fn change_of(rt: &impl Abort, alloc: Global, sql: &str) -> Act
     }
 }
 
+/// Whether the entry is another session's, or has a lower request number.
+fn is_older(entry: &Entry, session: u64, seq: u64) -> bool
+    ensures { result ≡ true → entry.now.session ≡ session → entry.now.seq < seq }
+{
+    entry.session != session || entry.seq < seq
+}
+
 /// Whether each entry of the session has a lower request number.
 fn is_next(book: &Book<MemStore>, session: u64, seq: u64) -> bool
     ensures { result ≡ true → All (λ (d : Entry). d.session ≡ session → d.seq < seq) (log book.now.state.history) }
@@ -72,7 +79,7 @@ fn is_next(book: &Book<MemStore>, session: u64, seq: u64) -> bool
         let Some(entry) = book.entry(n + 1) else {
             return false;
         };
-        if entry.session == session && entry.seq >= seq {
+        if !is_older(entry, session, seq) {
             return false;
         }
     }
