@@ -26,9 +26,9 @@ use cj_log::{LogItem, LogMarker};
 use cj_model::{
     Act, Answer, BACKEND_LIMIT, EVENT_LIMIT, Entry, Name, NoMemory, Select, TableSet, has_bit,
 };
-use cj_recovery::entry_item;
 use cj_outside::Store;
 use cj_place::Placement;
+use cj_recovery::entry_item;
 use cj_usage::written;
 
 /// What the cache must drop for an entry: the tables that it touches, and the kept statements that need one of them.

@@ -24,10 +24,10 @@ use crate::listed::{run_log, status_of_listing};
 use crate::piped::{PipeError, run_pipe};
 use crate::refused::stop_at_log;
 use crate::scripted::run_script;
+use cj_args::{Asked, Command, help_text, read, version_text};
 use cj_conf::Conf;
 use cj_model::NoMemory;
 use cj_outside::{Clock, Sink, Source, Store, write_all};
-use cj_args::{Asked, Command, help_text, read, version_text};
 use std::alloc::Global;
 
 /// How a run ended.
