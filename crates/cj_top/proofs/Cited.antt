@@ -10,6 +10,8 @@ pub use Rattle.cj_outside.specs.Memory.{State}
 pub use Rattle.cj_outside.specs.declared.sink.OutError.TheVariants.{Failed, NoMemory}
 pub use Rattle.cj_top.proofs.Common.{AreEmpty, BackendKind, BackendState, BeginsAsConfigured, FlakyState, Found, HaveBegunNone, IfErr, IfOk, Layout, MemoryState, OutError, PipeError, RefusesPipe, Register, RunsPipe, ServesSession, SessionEnd, Slot, StartError, StartsFrom, WorldState, client_state, faults_of, fresh_state, generator_of, never_armed, new_backend, new_of, opened_at, placement_of, solo_setting, state_by, status_of_listing, told_by}
 pub use Rattle.cj_top.proofs.InputSessions.{session_answers}
+pub use Rattle.cj_cluster.proofs.Pushed.{prefix_self}
+pub use Rattle.cj_top.proofs.Longer.{keeps_front, script_longer, session_longer}
 pub use Rattle.cj_top.proofs.NewBackends.{all_alike, any_are_new, flaky_count, flaky_empty, flaky_none, flaky_seen, memory_are_new, new_can_count, seen_alike, sum_of_none}
 pub use Rattle.cj_top.proofs.PlayedOver.{played_as_configured}
 pub use Rattle.cj_top.proofs.Statuses.{goes_on, same_cause}

@@ -3,6 +3,7 @@ pub mod Cited
 pub mod Common
 pub mod InputScripts
 pub mod InputSessions
+pub mod Longer
 pub mod NewBackends
 pub mod PlayedOver
 pub mod Statuses

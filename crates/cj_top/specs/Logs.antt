@@ -1,5 +1,6 @@
 -- The log that a command opens, and how a command stops at it.
 use Rattle.std.specs.Prelude.{◌≡◌, ◌⊎◌, ℕ, Bool, true, List, [], ◌∷◌, codes, Result, Err, IsErrOf}
+use mathlib.Core.List.{IsPrefix}
 use Rattle.std.specs.declared.option.Option.{Option}
 use Rattle.std.specs.Fmt.{decimal}
 use Rattle.cj_outside.specs.Causes.{CountsFault}
@@ -10,6 +11,7 @@ use Rattle.cj_records.specs.RecordFiles.{Finds}
 use Rattle.cj_records.specs.Records.{WritesOnlyNew}
 use Rattle.cj_log.specs.declared.item.LogItem.{LogItem}
 use Rattle.cj_log.specs.Logs.{HasBadItem, KeepsItems, log_magic}
+use Rattle.cj_recovery.specs.Openings.{items_of}
 use Rattle.cj_book.specs.declared.error.StartError.{StartError}
 use Rattle.cj_book.specs.declared.error.StartError.TheVariants as errors
 use Rattle.cj_book.specs.Books.{IsKeptIn}
@@ -31,10 +33,12 @@ pub record IsLogOf {S : Type 0} (faults : S → ℕ) (held : S → List ℕ) (ma
   pub kept : tells ≡ true → IsKeptIn (held after) w.core.history
   pub stop : tells ≡ true → (image : List ℕ) → may after image → IsKeptIn image w.core.history
 
--- A command went from a first world to a last one over the log's store: the first counted on from the store that was
--- handed in, and the store that is given back is that of the last.
+-- A command went from a first world to a last one over the log's store. The first counted on from the store that was
+-- handed in, and the store that is given back is that of the last: what was kept before stands before what the command
+-- added.
 pub record GoesOnIn {S : Type 0} (faults : S → ℕ) (held : S → List ℕ) (may : S → List ℕ → Type 0) (tells : Bool) (log after : S) (first last : WorldState) : Type 0 where
   pub begins : first.recovery_log.faults ≡ faults log
+  pub longer : tells ≡ true → (items : List LogItem) → KeepsItems (held log) items → IsPrefix items (items_of last.core.history)
   pub leaves : IsLogOf faults held may tells last after
 
 -- A command that only reads the log came to this status: of a new file the first bytes were written, and nothing else

@@ -1,7 +1,7 @@
 use Rattle.std.proofs.Common.{◌≡◌, ◌≤◌, Result, Ok, Err, map, refl, sym, ◌∙◌, subst}
 use Rattle.cj_model.specs.declared.limits.TheConstants.{SESSION_NUMBER_LIMIT}
 use Rattle.cj_top.specs.declared.piped.PipeError.TheVariants as errors
-use Rattle.cj_top.proofs.Cited.{Found, IfErr, IfOk, IsLogOf, Layout, PipeError, RefusesPipe, Register, SessionEnd, StartsFrom, WorldState, placement_of, state_by}
+use Rattle.cj_top.proofs.Cited.{Found, IfErr, IfOk, IsLogOf, Layout, PipeError, RefusesPipe, Register, SessionEnd, StartsFrom, WorldState, keeps_front, placement_of, prefix_self, state_by}
 use Rattle.cj_top.proofs.piped.pipe.Goals as goal
 
 -- what is promised of a session that was served
@@ -53,4 +53,4 @@ returns-clause-refused g c =
     c.serve_one.result c.serve_one.ensures.full c.serve_one.ensures.left
     (λ e left full leaves.
     subst (λ (x : PipeError). RefusesPipe s.faults s.held s.may s.tells c.args.log left p backends x) (sym full.0)
-    (record { first = first; starts = starts; last_given = full.1; goes_on = record { begins = c.in-Ok-start.ensures.cause; leaves = leaves } }))
+    (record { first = first; starts = starts; last_given = full.1; goes_on = record { begins = c.in-Ok-start.ensures.cause; longer = keeps_front s.tells (s.held c.args.log) p backends first first starts (prefix_self first.core.history); leaves = leaves } }))

@@ -1,4 +1,4 @@
-use Rattle.cj_top.proofs.Cited.{BackendKind, BackendState, Found, GoesOnIn, IfErr, IsErrAnd, MemoryState, PipeError, RefusesPipe, RunsPipe, Slot, StartsFrom, all_alike, any_are_new, both_ways, faults_of, fresh_state, in_memory, is_memory, list_all, new_backend, new_can_count, new_of, placement_of, same_cause, seen_alike, sum_of_none}
+use Rattle.cj_top.proofs.Cited.{BackendKind, BackendState, Found, GoesOnIn, IfErr, IsErrAnd, MemoryState, PipeError, RefusesPipe, RunsPipe, Slot, StartsFrom, all_alike, any_are_new, both_ways, faults_of, fresh_state, in_memory, is_memory, keeps_front, list_all, new_backend, new_can_count, new_of, placement_of, same_cause, seen_alike, session_longer, sum_of_none}
 use Rattle.std.proofs.Common.{Ok, Err, Result, ◌≡◌, Bool, true, false, [], List, ℕ, Option, Some, get_or, length, map, replicate, sum, refl, sym, ap, ◌∙◌, subst, arith}
 use Rattle.cj_cluster.specs.declared.session.SessionEnd.TheVariants as ends
 use Rattle.cj_top.proofs.piped.run_pipe.Goals as goal
@@ -37,7 +37,7 @@ returns-then-are_in_memory-clause-runs g c =
       ending = c.in_ok-end.end;
       last = c.in_ok-end.world;
       serves = served.5;
-      goes_on = record { begins = served.4; leaves = c.log_over_memory.ensures.left };
+      goes_on = record { begins = served.4; longer = keeps_front g.S.Store.tells (g.S.Store.held c.args.log) p _ served.0 c.in_ok-end.world starts (session_longer _ _ _ _ _ _ _ served.0 c.in_ok-end.world c.in_ok-end.end served.5); leaves = c.log_over_memory.ensures.left };
       blameless = λ t. served.5.blameless (last_none ∙ sym first_none) room;
       status_is = c.status_of_session.ensures.status;
     }
@@ -62,6 +62,7 @@ returns-clause-runs g c =
       serves = served.5;
       goes_on = record {
         begins = served.4;
+        longer = keeps_front g.S.Store.tells (g.S.Store.held c.args.log) p _ served.0 c.in_ok-end-2.world starts (session_longer _ _ _ _ _ _ _ served.0 c.in_ok-end-2.world c.in_ok-end-2.end served.5);
         leaves = record { counts = c.into_log.ensures.faults; bytes = c.into_log.ensures.bytes; kept = c.into_log.ensures.kept; stop = c.into_log.ensures.stop };
       };
       blameless = λ t. absurd (both_ways false refl t);
