@@ -34,8 +34,8 @@ pub record IsLogOf {S : Type 0} (faults : S → ℕ) (held : S → List ℕ) (ma
   pub stop : tells ≡ true → (image : List ℕ) → may after image → IsKeptIn image w.core.history
 
 -- A command went from a first world to a last one over the log's store. The first counted on from the store that was
--- handed in, and the store that is given back is that of the last: what was kept before stands before what the command
--- added.
+-- handed in, and the store that is given back is that of the last: what was kept before stands before what the
+-- command added.
 pub record GoesOnIn {S : Type 0} (faults : S → ℕ) (held : S → List ℕ) (may : S → List ℕ → Type 0) (tells : Bool) (log after : S) (first last : WorldState) : Type 0 where
   pub begins : first.recovery_log.faults ≡ faults log
   pub longer : tells ≡ true → (items : List LogItem) → KeepsItems (held log) items → IsPrefix items (items_of last.core.history)
