@@ -54,11 +54,11 @@ placement_at b = placement_of b.layout
 abbrev pub with_event : {S : Type 0} → BookState S → Event → BookState S
 with_event b e = record b { history = b.history ++ e ∷ [] }
 
--- the book with one more entry, and without the kept answers whose queries need a table that it touches
+-- the book with one more entry, and without the kept answers whose queries need a table that the entry touches
 abbrev pub with_entry : {S : Type 0} → BookState S → Entry → BookState S
 with_entry b e = record (with_event b (Sched e)) { cache = without_touched (log b.history) e b.cache }
 
--- what the cache drops behind an entry: exactly the tables that it touches, and the kept statements that need one of them
+-- what the cache drops for an entry: exactly the tables that the entry touches, and the kept statements that need one
 pub record IsDoomedBy {S : Type 0} (b : BookState S) (e : Entry) (d : Doomed) : Type 0 where
   pub tables : (table : List ℕ) → has_table d.tables table ≡ touches_behind (log b.history) e.tx e.act table
   pub statements : ListsDoomed d.tables b.cache d.statements
@@ -69,13 +69,13 @@ pub record IsPrepared {S : Type 0} (b : BookState S) (e : Entry) (p : Prepared) 
   pub doomed : IsDoomedBy b e p.doomed
   pub item : (p.item ≡ entry_item (length (log b.history) + 1) e) × CanAppend p.item
 
--- the book is as before, but maybe for its recovery log
+-- the book is unchanged, except maybe for its recovery log
 abbrev pub IsSameButLog : {S : Type 0} → BookState S → BookState S → Type 0
 IsSameButLog old new = new ≡ record old { recovery_log = new.recovery_log }
 
 -- ---- the recovery log
 
--- whether the last write to the log failed, one event later
+-- whether the last write to the log failed, after one more event
 abbrev pub log_failed_after : Bool → Event → Bool
 log_failed_after failed (Sched e) = false
 log_failed_after failed (Ended f s) = failed
@@ -85,23 +85,24 @@ log_failed_after failed (Disabled b) = failed
 log_failed_after failed (Enabled b) = failed
 log_failed_after failed (Marker name b) = false
 
--- the last write to the log that the history tells of failed
+-- whether the last write to the log failed, of those that the history tells of
 abbrev pub last_write_failed : List Event → Bool
 last_write_failed h = fold log_failed_after false h
 
--- A log's bytes keep the entries and markers of a history. Behind a write that failed they may keep one item more, the one that was refused.
+-- A log's bytes keep the entries and markers of a history.
+-- After a write that failed they may keep one item more, the one that was refused.
 pub record IsKeptIn (bytes : List ℕ) (h : List Event) : Type 0 where
   pub whole : last_write_failed h ≡ false → KeepsItems bytes (items_of h)
   pub at_least : KeepsItems bytes (items_of h) ⊎ (refused : LogItem) × KeepsItems bytes (items_of h ++ refused ∷ [])
 
 -- ---- markers
 
--- the marker that an item is, where it is one
+-- the marker of an item; none where the item is an entry
 abbrev pub marker_in : LogItem → Option LogMarker
 marker_in (items.Entry x) = None
 marker_in (items.Marker m) = Some m
 
--- the markers of a history in order, each with how many entries stand before it
+-- the markers of a history in order, each with the number of entries before it
 abbrev pub markers_of : List Event → List LogMarker
 markers_of h = filter_map marker_in (items_of h)
 
@@ -116,7 +117,7 @@ pub record IsOpenSession (sessions : List ℕ) (s : ℕ) : Type 0 where
 abbrev pub has_session : {S : Type 0} → BookState S → ℕ → Bool
 has_session b s = list_any (λ n. n == s) b.sessions
 
--- no session more can be opened
+-- no session more can be opened: the limit of open sessions is reached, or all numbers were given
 abbrev pub has_no_number : {S : Type 0} → BookState S → Bool
 has_no_number b = nat_le SESSION_LIMIT (length b.sessions) || nat_le SESSION_NUMBER_LIMIT b.greatest
 
@@ -133,12 +134,12 @@ with_session b = record b { sessions = b.sessions ++ (b.greatest + 1) ∷ []; gr
 abbrev pub without_session : {S : Type 0} → BookState S → ℕ → BookState S
 without_session b s = record b { sessions = filter (λ n. not (n == s)) b.sessions }
 
--- the transaction that this entry began is open, and its session isn't
+-- whether the transaction that this entry began is open, and its session isn't
 abbrev pub is_orphan_of : {S : Type 0} → BookState S → ℕ → Option Entry → Bool
 is_orphan_of b tx None = false
 is_orphan_of b tx (Some begin) = tx_of (log b.history) begin.session == tx && not (has_session b begin.session)
 
--- an open transaction whose session isn't open
+-- whether the transaction is open, and its session isn't
 abbrev pub is_orphan : {S : Type 0} → BookState S → ℕ → Bool
 is_orphan b tx = is_orphan_of b tx (entry_numbered (log b.history) tx)
 
@@ -152,7 +153,7 @@ IsOfGiven b e = ((0 < e.session) × (e.session ≤ b.greatest)) ⊎ ((e.session 
 
 -- ---- backends
 
--- whether backend b is enabled and hosts each of the tables
+-- whether backend k is enabled and hosts each of the tables
 abbrev pub is_candidate : {S : Type 0} → BookState S → List (List ℕ) → ℕ → Bool
 is_candidate b tables k = is_enabled b.history k && hosts_all (placement_at b) k tables
 
@@ -161,12 +162,13 @@ abbrev pub is_target_at : Placement → List Event → Option Entry → ℕ → 
 is_target_at p h None k = false
 is_target_at p h (Some e) k = is_enabled h k && concerns p k (log h) e.tx e.act
 
+-- whether backend k is a target of the entry, by the book's history
 abbrev pub is_target : {S : Type 0} → BookState S → Option Entry → ℕ → Bool
 is_target b e k = is_target_at (placement_at b) b.history e k
 
 -- ---- reads
 
--- one more read is pending at b, as far as 32 bits count
+-- one more read is pending at backend b, up to the greatest number of 32 bits
 abbrev pub with_pending_read : List ℕ → ℕ → List ℕ
 with_pending_read pending b = if slice_index pending b + 1 == 2 ^ 32 then pending else one_more pending b
 
@@ -174,7 +176,7 @@ with_pending_read pending b = if slice_index pending b + 1 == 2 ^ 32 then pendin
 abbrev pub read_at : Balance → ℕ → Balance
 read_at balance b = record balance { standing = record (picked balance.policy balance.standing b) { pending = with_pending_read balance.standing.pending b } }
 
--- the balancer picks b of the candidates, and a read begins there
+-- the balancer picks backend b of the candidates, and a read begins there
 pub record PicksOf {S : Type 0} (old new : BookState S) (candidates b : ℕ) : Type 0 where
   pub first : IsFirst (is_ahead old.balance.policy old.balance.weights old.balance.standing) candidates b
   pub stands : new ≡ record old { balance = read_at old.balance b }
@@ -227,7 +229,7 @@ HasRoom b (Err (HistoryFull n)) = HasNoRoomForOne b n
 HasRoom b (Err LogFault) = ⊥
 HasRoom b (Err NoMemory) = ⊥
 
--- want of room in the history
+-- the error is that the history has no room
 abbrev pub IsFull : BookError → Type 0
 IsFull (InProgress n) = ⊥
 IsFull NoBackend = ⊥
@@ -235,7 +237,7 @@ IsFull (HistoryFull n) = Unit {0}
 IsFull LogFault = ⊥
 IsFull NoMemory = ⊥
 
--- or of memory
+-- the error is that the history has no room, or that memory ran out
 abbrev pub IsWant : BookError → Type 0
 IsWant (InProgress n) = ⊥
 IsWant NoBackend = ⊥

@@ -12,7 +12,7 @@ use Rattle.cj_book.specs.declared.transactions.OpenTransaction.{OpenTransaction}
 
 -- ---- items with a number
 
--- items by their numbers
+-- the order of items by their numbers
 abbrev pub by_number : {A : Type 0} → (A → ℕ) → A → A → Ordering
 by_number number x y = nat_cmp (number x) (number y)
 
@@ -20,17 +20,18 @@ by_number number x y = nat_cmp (number x) (number y)
 abbrev pub numbered : {A : Type 0} → (A → ℕ) → List A → ℕ → Option A
 numbered number xs n = find (λ x. number x == n) xs
 
--- the items but for those of a number
+-- the items without those of a number
 abbrev pub without : {A : Type 0} → (A → ℕ) → ℕ → List A → List A
 without number n xs = filter (λ x. not (number x == n)) xs
 
--- the item of this number stands at this place
+-- the item of this number is at this index
 pub record IsIndexOf {A : Type 0} (number : A → ℕ) (xs : List A) (n place : ℕ) : Type 0 where
   pub within : place < length xs
   pub found : numbered number xs n ≡ slice_get xs place
 
 -- ---- sessions
 
+-- the number of a session
 abbrev pub session_number : BookSession → ℕ
 session_number s = s.number
 
@@ -53,6 +54,7 @@ sessions_after ss n e act.Abort = with_tx e.session 0 ss
 
 -- ---- transactions
 
+-- the number of a transaction, which is that of its BEGIN entry
 abbrev pub tx_number : OpenTransaction → ℕ
 tx_number t = t.number
 
@@ -78,7 +80,7 @@ transactions_after ts n hosts e (act.Drop table) = ts
 transactions_after ts n hosts e act.Commit = without tx_number e.tx ts
 transactions_after ts n hosts e act.Abort = without tx_number e.tx ts
 
--- the transactions with the one that entry n of the log begins
+-- the open transactions, with the one that entry n of the log begins, before the entry is scheduled
 abbrev pub transactions_begun : List OpenTransaction → ℕ → Entry → Act → List OpenTransaction
 transactions_begun ts n e act.Begin = ts ++ new_tx n e.session ∷ []
 transactions_begun ts n e (act.Write w) = ts
@@ -87,7 +89,7 @@ transactions_begun ts n e (act.Drop table) = ts
 transactions_begun ts n e act.Commit = ts
 transactions_begun ts n e act.Abort = ts
 
--- the transactions after an entry, where the one that it begins is among them
+-- the open transactions after an entry, where the transaction that the entry begins was added before
 abbrev pub transactions_followed : List OpenTransaction → ℕ → Entry → Act → List OpenTransaction
 transactions_followed ts hosts e act.Begin = ts
 transactions_followed ts hosts e (act.Write w) = with_wrote e.tx hosts ts

@@ -1,4 +1,4 @@
--- What a book is that was just opened, and why the log's store holds none.
+-- What `open` gives: a book that was just opened, or an error and what the log's store has then.
 use Rattle.std.specs.Prelude.{◌≡◌, ◌⊎◌, ℕ, false, List, [], fold, length, max, nat_le, if◌then◌else◌, Result, Ok, Err}
 use Rattle.cj_model.specs.declared.request.Entry.{Entry}
 use Rattle.cj_model.specs.Cluster.Balancing.{Balance}
@@ -19,7 +19,8 @@ use Rattle.cj_book.specs.declared.error.StartError.TheVariants.{StoreFault, BadR
 abbrev pub greatest_session : List Entry → ℕ
 greatest_session entries = fold (λ n (e : Entry). max n e.session) 0 entries
 
--- The book of a log that was just opened: its history is the one that its entries and markers open with, and no session is open. Session numbers go on above the greatest in the log.
+-- The book was just opened: its history is the one that the log's entries and markers open with.
+-- No session is open. Session numbers go on above the greatest in the log.
 pub record IsStarted {S : Type 0} (placement : Layout) (balancer : Balance) (answers : CacheState) (book : BookState S) : Type 0 where
   pub layout : book.layout ≡ placement
   pub balance : book.balance ≡ balancer
@@ -29,7 +30,7 @@ pub record IsStarted {S : Type 0} (placement : Layout) (balancer : Balance) (ans
   pub greatest : book.greatest ≡ greatest_session (log book.history)
   pub shut : book.recovery_log.torn ≡ false
 
--- the bytes keep the items of a log, of which one can't come next
+-- the bytes keep the items of a log, of which entry n, or a marker before it, can't come next
 abbrev pub KeepsBadEntry : List ℕ → ℕ → Type 0
 KeepsBadEntry bytes n = (items : List LogItem) × KeepsItems bytes items × HasBadEntry items n
 
@@ -41,7 +42,7 @@ Starts held old (Err (NoMemory, store)) = WritesOnlyNew old (held store)
 Starts held old (Err (BadRecord offset, store)) = (Finds log_magic old (Err offset) ⊎ HasBadItem old offset) × (held store ≡ old)
 Starts held old (Err (BadEntry n, store)) = KeepsBadEntry old n × (held store ≡ old)
 
--- opening counts a fault exactly where it answers that the store failed
+-- opening counts a fault of the store if and only if the answer is `StoreFault`
 abbrev pub CountsStartFault : {S : Type 0} → (S → ℕ) → ℕ → Result (BookState S) (StartError × S) → Type 0
 CountsStartFault faults before (Ok book) = faults book.recovery_log.store ≡ before
 CountsStartFault faults before (Err (StoreFault, store)) = faults store ≡ next before

@@ -1,4 +1,4 @@
-//! A book at its seat of a board.
+//! The type `Book`: its fields, its view and invariant for contracts, and how it is opened.
 
 ghost use Rattle.std.specs.Prelude.{List, not, ◌≡◌, ◌≢◌, ◌⊎◌, Some, ◌↔◌, ◌+◌, ◌-◌, ◌*◌, ◌<◌, ◌≤◌, ◌&&◌, ℕ, true, false, [], ◌∷◌, ◌++◌, length, Contains, IfOk, IfErr, OnOk, OnErr, IsErrOf};
 ghost use Rattle.std.specs.BTreeSet.{contains};
@@ -43,20 +43,20 @@ use std::alloc::Global;
 use std::marker::Model;
 use std::snapshot::Snapshot;
 
-/// What a book is made of.
+/// The parts that the caller gives to a new book.
 #[derive(Drop)]
 pub struct BookParts {
     pub placement: Placement,
     pub balancer: Balancer,
-    /// It has kept and counted nothing.
+    /// The cache, which has kept and counted nothing.
     pub cache: Cache,
 }
 
-/// The log of a cluster, and what follows from its history: which entry is open and for which backends, which backends are
-/// enabled, which sessions are open and their transactions.
+/// The log of a cluster, and what follows from its history.
 ///
-/// The history is what the book's seat at the board has seen, and no list of events is kept: each event comes to the board in the
-/// call that brings it. A mask has bit b for backend b. Entries are numbered from 1.
+/// A book knows the open entry and its targets, the enabled backends, the open sessions and their transactions.
+/// The history is what the book's seat at the board has seen. An event goes to the board in the call that brings it.
+/// A mask has bit b for backend b. Entries are numbered from 1.
 #[derive(Drop)]
 pub struct Book<S: Store> {
     pub(crate) alloc: Global,
@@ -106,7 +106,7 @@ impl<S: Store> Model for Book<S> {
     ghost invariant = { λ book. IsKeptBook S.tells book.placement (book_view book.seat).front book.entries.items book.done book.enabled book.greatest book.targets book.sessions book.transactions book.markers.items (book_view book.seat).given book.recovery_log.items book.recovery_log.torn (S.faults book.opened_with.value) (S.faults book.recovery_log.store) };
 }
 
-/// Why the log wasn't opened.
+/// Returns the book's error for a refusal of the log's records.
 fn start_error(error: RecordsError) -> StartError
     ensures { result ≡ start_error_of error }
 {
@@ -117,7 +117,7 @@ fn start_error(error: RecordsError) -> StartError
     }
 }
 
-/// Why its items are no history's.
+/// Returns the book's error for log items that open no history.
 fn entry_error(error: OpeningError) -> StartError
     ensures { result ≡ entry_error_of error }
 {
@@ -128,11 +128,13 @@ fn entry_error(error: OpeningError) -> StartError
 }
 
 impl<S: Store> Book<S> {
-    /// Opens the book of the log in a store, which is begun where the store is new, at a seat that has seen nothing. What it finds
-    /// comes to the board.
+    /// Opens the book of the log in a store, at a seat that has seen nothing. A new store becomes an empty log.
     ///
-    /// The items of the log are read first (`BadRecord`), and then the history that they open with (`BadEntry`). Refused, it hands
-    /// the store back, in which nothing was written but the bytes of a new file.
+    /// The events that the log opens with go to the board. No session is open, and no backend is enabled.
+    /// The log's records are read first (`BadRecord`), and then the history that they open with (`BadEntry`).
+    /// `StoreFault`: the store failed and counted it. `NoMemory`: memory ran out.
+    /// An error returns the store. `BadRecord` and `BadEntry` leave its bytes, others write only into a new file.
+    /// The seat is used up either way, and after `NoMemory` the board may have some of the events.
     pub fn open(
         alloc: Global,
         parts: BookParts,
@@ -184,11 +186,15 @@ impl<S: Store> Book<S> {
         }
     }
 
-    /// Shows what holds of all books: the history is one that can be, the seat has seen it, the numbers of open sessions were given,
-    /// and the log's items are the history's entries and markers. The bytes of the log, and what a stop leaves of them, keep these
-    /// items; behind a write that failed, maybe the item that was refused too. For each failure of the log's store that the history
-    /// tells of, the store has counted a fault since the opening. At most one entry is open, and its end has room in the history. A
-    /// session that has an own pass is open.
+    /// Shows what holds of every book, and changes nothing.
+    ///
+    /// The history is legal, and the seat has seen it.
+    /// At most one entry is open, and the history has room for the end of that entry.
+    /// Numbers of open sessions were given, and each session that has an own pass is open.
+    /// The log's items are the entries and markers of the history. The log's bytes keep them, also after a crash.
+    /// After a failed write the bytes may also keep the item that was refused.
+    /// The store has counted a fault for each of its failures since the opening that the history tells of.
+    /// The only exception is a count at its greatest value.
     pub fn legal(&self)
         ensures legal { IsLegal self.now.state.history }
         ensures front { self.now.view.front ≡ self.now.state.history }
@@ -207,7 +213,7 @@ impl<S: Store> Book<S> {
         self.recovery_log.legal();
     }
 
-    /// The log's store, as it is.
+    /// Returns the log's store as it is, and drops the rest of the book.
     pub fn into_log(self) -> S
         ensures { result ≡ self.state.recovery_log.store }
     {

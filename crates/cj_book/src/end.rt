@@ -18,7 +18,10 @@ use cj_cluster::Event;
 use cj_outside::Store;
 
 impl<S: Store> Book<S> {
-    /// Ends the open entry. It takes no memory.
+    /// Ends the open entry, and disables the targets that failed or ran out of memory.
+    ///
+    /// `failed` and `starved` are masks of targets. The seat must have a fault token of each failed backend.
+    /// Each backend that stays enabled must be noted at the end of the log. The call takes no memory and never fails.
     pub fn end(&mut self, board: &Board, failed: u32, starved: u32)
         requires board { self.old.board ≡ board_id board.now }
         requires open { is_free self.old.state.history ≡ false }
@@ -38,6 +41,7 @@ impl<S: Store> Book<S> {
     }
 
     /// Disables a backend that is enabled, while no entry is open.
+    /// `HistoryFull`: no event more has room. An error leaves the book unchanged.
     pub fn disable(&mut self, board: &Board, b: u8) -> Result<(), BookError>
         requires board { self.old.board ≡ board_id board.now }
         requires is_free { is_free self.old.state.history ≡ true }
@@ -55,7 +59,9 @@ impl<S: Store> Book<S> {
         Ok(())
     }
 
-    /// Enables a backend that isn't enabled, while no entry is open. It is noted to stand at the end of the log.
+    /// Enables a backend that is disabled, while no entry is open.
+    /// The seat must have a note that the backend is at the end of the log.
+    /// `HistoryFull`: no event more has room. An error leaves the book unchanged.
     pub fn enable(&mut self, board: &Board, b: u8) -> Result<(), BookError>
         requires board { self.old.board ≡ board_id board.now }
         requires is_free { is_free self.old.state.history ≡ true }
@@ -74,7 +80,9 @@ impl<S: Store> Book<S> {
         Ok(())
     }
 
-    /// A backend failed in a session's read, also while an entry is open; the book knows of a fault of it that no event has told of.
+    /// Records that a backend failed in a session's read, also while an entry is open.
+    /// The event spends one fault token of that backend, which the seat must have. The backend stays enabled.
+    /// `HistoryFull`: no event more has room. An error leaves the book unchanged, with the token.
     pub fn read_failed(
         &mut self,
         board: &Board,

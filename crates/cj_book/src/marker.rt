@@ -21,7 +21,7 @@ use cj_log::{LogError, LogItem, LogMarker};
 use cj_model::Name;
 use cj_outside::Store;
 
-/// A marker behind so many entries.
+/// Returns a marker after the first `after` entries. It names the dump of backend `b`, where there is one.
 fn marker_of(after: u64, name: &Name, b: Option<u8>) -> LogMarker
     ensures { result ≡ record { after = after; name = name.now; b = b } }
 {
@@ -33,8 +33,12 @@ fn marker_of(after: u64, name: &Name, b: Option<u8>) -> LogMarker
 }
 
 impl<S: Store> Book<S> {
-    /// Marks a checkpoint while no entry is open, and answers how many entries stand before it. It stands in the log before it
-    /// comes into the history.
+    /// Marks a checkpoint while no entry is open, and returns the number of entries before it.
+    ///
+    /// The name must be new and not empty. `b` is the backend whose dump has the name, and may not be 255.
+    /// The marker is appended to the log first, and to the history after that.
+    /// `HistoryFull`: no event more has room. `NoMemory`: memory ran out. Both leave the history unchanged.
+    /// `LogFault`: the log's store failed. The history then has an event that tells of it, and no marker.
     pub fn mark(&mut self, board: &Board, name: &Name, b: Option<u8>) -> Result<u64, BookError>
         requires board { self.old.board ≡ board_id board.now }
         requires is_free { is_free self.old.state.history ≡ true }
@@ -53,7 +57,8 @@ impl<S: Store> Book<S> {
         self.enter_marker(board, name, b)
     }
 
-    /// A checkpoint that can be marked comes into the log, and then into the history.
+    /// Appends the marker of a checkpoint that can be marked to the log, and then to the history.
+    /// `NoMemory` leaves the history unchanged. After `LogFault` the history has an event that tells of the failure.
     fn enter_marker(&mut self, board: &Board, name: &Name, b: Option<u8>) -> Result<u64, BookError>
         requires board { self.old.board ≡ board_id board.now }
         requires space { 0 < events_left self.old.state.history }
@@ -78,7 +83,7 @@ impl<S: Store> Book<S> {
     {
         self.recovery_log.legal();
         let number = self.length();
-        // As for an entry, all memory is taken before.
+        // Once the log has the item, nothing may fail any more: so all memory is taken before.
         self.markers.reserve(1)?;
         let item = LogItem::Marker(marker_of(number, name, b));
         match self.recovery_log.append(item) {

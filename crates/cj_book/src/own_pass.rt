@@ -1,4 +1,4 @@
-//! Passes at the book: what the two tell each other, and sessions with an own pass, which counts their events.
+//! Passes at the book: how notes are exchanged, and sessions whose own pass counts their events.
 
 ghost use Rattle.std.specs.Prelude.{ℕ, ◌≡◌, ◌↔◌, ◌+◌, ◌<◌, ◌≤◌, true, Contains, IfOk, OnErr, OnOk, IsErrOf};
 ghost use mathlib.Core.List.{IsPrefix};
@@ -21,8 +21,12 @@ use crate::counter::Counter;
 use crate::error::{BookError, OwnError};
 
 impl<S: Store> Book<S> {
-    /// Opens a session of the next number with its own pass, which has seen the history and has counted nothing.
-    /// The book has a note of that count. It takes memory where many are open.
+    /// Opens a session of the next number, and returns the number with the session's own pass.
+    ///
+    /// The pass has seen the history and has counted nothing, and the book has a note of that count.
+    /// All sessions of the book so far must have been opened with own passes.
+    /// `SessionsFull`: all session numbers were given. `NoMemory`: many sessions are open, and memory ran out.
+    /// An error leaves the book unchanged.
     pub fn open_own(&mut self, board: &Board) -> Result<(u64, Pass), OwnError>
         requires board { self.old.board ≡ board_id board.now }
         requires gives { GivesOwnPassesOnly self.old }
@@ -49,8 +53,11 @@ impl<S: Store> Book<S> {
         Ok((session, p))
     }
 
-    /// Schedules an entry of a session with an own pass, as `schedule` does. The pass counts the event that comes, and has
-    /// seen the history then.
+    /// Schedules an entry of the session of an own pass, and returns the entry's number.
+    ///
+    /// The pass counts the event that comes, which is the entry, or the log's failure after `LogFault`.
+    /// The pass has seen the whole history at the end, also after an error.
+    /// Errors and what they leave of the history are those of `schedule`.
     pub fn schedule_own(&mut self, board: &Board, p: &mut Pass, e: Entry) -> Result<u64, BookError>
         requires board { (self.old.board ≡ board_id board.now) × (pass_board p.old ≡ board_id board.now) }
         requires own { ((pass_view p.old).own_session ≡ e.session) × (0 < e.session) }
@@ -80,7 +87,8 @@ impl<S: Store> Book<S> {
         result
     }
 
-    /// Closes a session with an own pass, which the board takes back; a transaction that it has open is then an orphan.
+    /// Closes a session that has an own pass, and returns the pass to the board.
+    /// An open transaction of the session becomes an orphan.
     pub fn close_own(&mut self, board: &Board, session: u64, p: Pass)
         requires board { (self.old.board ≡ board_id board.now) × (pass_board p ≡ board_id board.now) }
         requires own { ((pass_view p).own_session ≡ session) × (0 < session) }
@@ -96,8 +104,8 @@ impl<S: Store> Book<S> {
         board.close_own(&mut self.seat, p);
     }
 
-    /// The pass has seen the history, and each has the other's notes. The fault tokens stay. The session of an own pass is one that
-    /// the book gave.
+    /// Shows the pass the whole history. Book and pass then have each other's notes.
+    /// Fault tokens stay where they are. The session of an own pass is one that the book has given.
     pub fn tell(&mut self, board: &Board, p: &mut Pass)
         requires board { (self.old.board ≡ board_id board.now) × (pass_board p.old ≡ board_id board.now) }
         ensures board { (self.new.board ≡ self.old.board) × (pass_board p.new ≡ pass_board p.old) }
@@ -113,7 +121,8 @@ impl<S: Store> Book<S> {
         board.tell(&mut self.seat, p);
     }
 
-    /// The book has the pass's notes, and takes its fault tokens.
+    /// Gives the book the pass's notes, and moves the pass's fault tokens to the book.
+    /// The pass sees nothing new.
     pub fn learn(&mut self, board: &Board, p: &mut Pass)
         requires board { (self.old.board ≡ board_id board.now) × (pass_board p.old ≡ board_id board.now) }
         ensures board { (self.new.board ≡ self.old.board) × (pass_board p.new ≡ pass_board p.old) }

@@ -1,4 +1,4 @@
-//! How an entry is scheduled: into the log, and then into the history.
+//! Scheduling: an entry is appended to the log, and then to the history.
 
 ghost use Rattle.std.specs.Prelude.{◌≡◌, ◌⊎◌, Some, ◌+◌, ◌<◌, true, [], ◌∷◌, ◌++◌, length, vec_capacity, IfOk, IfErr, OnOk, OnErr, IsErrOf};
 ghost use Rattle.cj_cluster.specs.declared.event.Event.{Event};
@@ -25,7 +25,7 @@ use cj_log::LogError;
 use cj_model::Entry;
 use cj_outside::Store;
 
-/// An entry comes to the board, and then behind the others, where there is room for it.
+/// Appends an entry to the board, and then to `entries`, which must have room for one more.
 fn put_entry(
     entries: &mut Vec<BoxedEntry>,
     board: &Board,
@@ -53,11 +53,14 @@ fn put_entry(
 }
 
 impl<S: Store> Book<S> {
-    /// Schedules an entry, which is then open, and answers its number. It stands in the log before it comes into the history.
-    /// The cache drops the answers whose queries need a table that the entry touches.
+    /// Schedules an entry, which is then open, and returns its number.
     ///
-    /// Where it is refused for several reasons, the error is the first of them in the order of the variants. Where the log's store
-    /// failed, the history has an event of that; else it is as it was.
+    /// The entry is appended to the log first, and to the history after that.
+    /// The cache drops the answers whose queries need a table that the entry touches.
+    /// `InProgress`: another entry is open. `NoBackend`: no enabled backend serves the entry.
+    /// `HistoryFull`: the history has no room for the entry and its end. `NoMemory`: memory ran out.
+    /// `LogFault`: the log's store failed, and the history has an event that tells of it.
+    /// Other errors leave the history unchanged. Of the first three, the error is the first that applies.
     pub fn schedule(&mut self, board: &Board, e: Entry) -> Result<u64, BookError>
         requires board { self.old.board ≡ board_id board.now }
         requires fit { is_free self.old.state.history ≡ true → IsFitEntry (log self.old.state.history) e }
@@ -73,7 +76,8 @@ impl<S: Store> Book<S> {
         self.schedule_counted(board, &mut Counter::Nobody, e)
     }
 
-    /// The same, where the session may have an own pass, which counts the event that comes.
+    /// Schedules an entry, whose session may have an own pass, and returns the entry's number.
+    /// The pass counts the event that comes. Errors and what they leave are those of `schedule`.
     pub(crate) fn schedule_counted(
         &mut self,
         board: &Board,
@@ -98,7 +102,8 @@ impl<S: Store> Book<S> {
         self.enter(board, counter, e, prepared)
     }
 
-    /// An entry that can be scheduled comes into the log, and then into the history.
+    /// Appends an entry that can be scheduled to the log, and then to the history.
+    /// `NoMemory` leaves the history unchanged. After `LogFault` the history has an event that tells of the failure.
     fn enter(
         &mut self,
         board: &Board,
@@ -131,7 +136,7 @@ impl<S: Store> Book<S> {
     {
         self.recovery_log.legal();
         let number = self.length() + 1;
-        // Once the item stands in the log, nothing may fail any more: so all memory is taken before.
+        // Once the log has the item, nothing may fail any more: so all memory is taken before.
         self.entries.reserve(1)?;
         self.transactions.prepare(number, &e)?;
         match self.recovery_log.append(prepared.item) {

@@ -1,4 +1,4 @@
-//! What changes of a book beside its history: its sessions, the reads that the balancer counts, and the cache.
+//! Calls that change a book and bring no event: sessions, the reads that the balancer counts, and the cache.
 
 ghost use Rattle.std.specs.Prelude.{◌≡◌, ◌≢◌, ◌↔◌, ◌+◌, ◌^◌, ◌<◌, ◌≤◌, true, length, Contains, slice_index, IsNone, IfSome, IfOk, IfErr, OnOk, OnErr, IsErr, Ok};
 ghost use Rattle.cj_model.specs.Cluster.Balancing.{one_less};
@@ -16,7 +16,7 @@ use cj_balance::Balancer;
 use cj_model::{Answer, BACKEND_LIMIT, NoMemory, SESSION_LIMIT, SESSION_NUMBER_LIMIT, Select};
 use cj_outside::Store;
 
-/// A read begins at the backend.
+/// Counts one more pending read at backend `b`, up to the greatest `u32`.
 fn begin_read(balancer: &mut Balancer, b: u8)
     requires { b < BACKEND_LIMIT }
     ensures one_more { balancer.new ≡ record balancer.old { standing = record balancer.old.standing { pending = books.with_pending_read balancer.old.standing.pending b } } }
@@ -28,7 +28,9 @@ fn begin_read(balancer: &mut Balancer, b: u8)
 }
 
 impl<S: Store> Book<S> {
-    /// Opens a session of the next number. It takes no memory.
+    /// Opens a session of the next number without an own pass, and returns the number. The call takes no memory.
+    /// `SessionsFull`: `SESSION_LIMIT` sessions are open, or all numbers were given.
+    /// An error leaves the book unchanged.
     pub fn open_session(&mut self) -> Result<u64, SessionsFull>
         ensures ok { OnOk result (self.new.state ≡ with_session self.old.state) }
         ensures number { IfOk result (λ n. n ≡ self.old.state.greatest + 1) }
@@ -48,7 +50,8 @@ impl<S: Store> Book<S> {
         Ok(self.greatest)
     }
 
-    /// Closes a session that has no own pass; a transaction that it has open is then an orphan.
+    /// Closes a session that has no own pass. An open transaction of the session becomes an orphan.
+    /// Nothing changes if no open session has the number.
     pub fn close_session(&mut self, session: u64)
         requires unowned { ¬ Contains self.old.view.given session }
         ensures state { self.new.state ≡ without_session self.old.state session }
@@ -57,8 +60,10 @@ impl<S: Store> Book<S> {
         self.sessions.remove(session);
     }
 
-    /// Picks the backend of the next read among the candidates, which are all below `BACKEND_LIMIT`; None exactly where there are none.
-    /// The read is pending there until it `ended`.
+    /// Picks the backend for the next read among the candidates, by the balancer's policy.
+    /// `candidates` is a mask of backends below `BACKEND_LIMIT`.
+    /// None if and only if the mask is 0, and then nothing changes.
+    /// The read is pending at the backend until `ended` is called.
     pub fn pick(&mut self, candidates: u32) -> Option<u8>
         requires { candidates < 2 ^ BACKEND_LIMIT }
         ensures none { IsNone result ↔ (candidates ≡ 0) }
@@ -72,7 +77,7 @@ impl<S: Store> Book<S> {
         Some(b)
     }
 
-    /// A read ended at the backend. Where none is pending there, nothing changes.
+    /// Notes that a read ended at backend `b`. Nothing changes if no read is pending there.
     pub fn ended(&mut self, b: u8)
         requires below { b < BACKEND_LIMIT }
         ensures state { self.new.state ≡ record self.old.state { balance = record self.old.state.balance { standing = record self.old.state.balance.standing { pending = one_less self.old.state.balance.standing.pending b } } } }
@@ -83,7 +88,8 @@ impl<S: Store> Book<S> {
         }
     }
 
-    /// Whether the answer of the query is kept, which is then in front. This counts a hit or a miss.
+    /// Returns whether the cache keeps an answer of the query, and counts a hit or a miss.
+    /// An answer that is found becomes the most recently used one.
     pub fn look(&mut self, select: &Select) -> bool
         ensures found { result ≡ has_answer select.now self.old.state.cache }
         ensures looked { self.new.state ≡ record self.old.state { cache = after_look select.now self.old.state.cache } }
@@ -92,8 +98,9 @@ impl<S: Store> Book<S> {
         self.cache.touch(select)
     }
 
-    /// Keeps an answer that was given at a position of the log; whether it does. It doesn't exactly where an entry behind that
-    /// position touches a table that the query needs.
+    /// Gives the cache an answer that reflects the first `at` entries of the log, and returns whether it did.
+    /// False if and only if an entry after that position touches a table that the query needs.
+    /// `NoMemory`: memory ran out. False and an error leave the book unchanged.
     pub fn keep(&mut self, select: Select, answer: Answer, at: u64) -> Result<bool, NoMemory>
         requires { at ≤ length (log self.old.state.history) }
         ensures untouched { IfOk result (λ kept. (kept ≡ true) ↔ NoneTouches (log self.old.state.history) at (length (log self.old.state.history)) select) }

@@ -1,4 +1,4 @@
-//! Which tables an entry touches, so that the answers of queries which need them are kept no longer.
+//! Invalidation: which tables an entry touches. The cache drops the answers whose queries need one of them.
 
 ghost use Rattle.std.specs.Prelude.{List, ℕ, ◌≡◌, ◌↔◌, ◌≤◌, ◌<◌, ◌||◌, false, length, option_copied, take, IfOk, OnOk, Some};
 ghost use Rattle.std.specs.Option.{option_map_or};
@@ -15,7 +15,7 @@ use cj_outside::Store;
 use cj_usage::{lone, written};
 use std::alloc::Global;
 
-/// The table that the entry writes in this transaction, where it does.
+/// Returns the table that the entry writes in transaction `tx`. None if the entry writes none in it.
 fn written_by(entry: &Entry, tx: u64) -> Option<&Name>
     ensures { (table : List ℕ) → option_map_or (λ name. bytes_eq name table) (option_copied result) false ≡ is_written_in tx table (Some entry.now) }
 {
@@ -25,7 +25,7 @@ fn written_by(entry: &Entry, tx: u64) -> Option<&Name>
     }
 }
 
-/// Adds the table that the entry, where there is one, writes in this transaction.
+/// Adds the table that the entry writes in transaction `tx` to the set. Nothing is added if there is none.
 fn add_written(tables: &mut TableSet, entry: Option<&Entry>, tx: u64) -> Result<(), NoMemory>
     ensures { OnOk result ((table : List ℕ) → has_table tables.new table ≡ (is_written_in tx table (option_copied entry.entry) || has_table tables.old table)) }
 {
@@ -39,7 +39,8 @@ fn add_written(tables: &mut TableSet, entry: Option<&Entry>, tx: u64) -> Result<
     Ok(())
 }
 
-/// The tables that a transaction writes in the entries up to `end`. They stand behind its BEGIN, whose number it has.
+/// Returns the tables that transaction `tx` writes in the first `end` entries of the log.
+/// The search starts after the BEGIN, whose entry has the transaction's number.
 fn written_in<S: Store>(
     book: &Book<S>,
     alloc: Global,
@@ -57,7 +58,8 @@ fn written_in<S: Store>(
     Ok(tables)
 }
 
-/// The tables that an act of a transaction, 0 for none, touches behind the entries up to `end`.
+/// Returns the tables that an act touches after the first `end` entries of the log.
+/// `tx` is the act's transaction, or 0. A write in a transaction touches nothing, and its COMMIT all that it wrote.
 pub fn touched_behind<S: Store>(
     book: &Book<S>,
     alloc: Global,
@@ -78,7 +80,7 @@ pub fn touched_behind<S: Store>(
     }
 }
 
-/// Whether entry `n + 1` of the log touches a table that the query needs.
+/// Returns whether entry `n + 1` of the log touches a table that the query needs.
 fn touches_query<S: Store>(
     book: &Book<S>,
     alloc: Global,
@@ -103,7 +105,7 @@ fn touches_query<S: Store>(
     }
 }
 
-/// Whether an entry behind a position of the log touches a table that the query needs.
+/// Returns whether an entry after the first `at` entries of the log touches a table that the query needs.
 pub fn is_touched_behind<S: Store>(
     book: &Book<S>,
     alloc: Global,

@@ -239,8 +239,8 @@ fn begin<B: Backend, S: Store>(
 
 /// Plays the workload of `count` statements, drawn from the seed, by a session of its own, and sums it up.
 ///
-/// A table is made, and its first host is dumped. Then the statements are asked for, one after another. Before some of
-/// them a backend is armed. After each one the backends that are out are brought back from the dump.
+/// A table is made, and its first host is dumped. Then the statements are asked for, one after another.
+/// Before some of them a backend is armed. After each one the backends that are out are brought back from the dump.
 ///
 /// `LogFault`: the log's store failed. `NoMemory`: memory ran out, be it at one backend in an entry that others took.
 /// `Untold`: the table's enabled hosts could not be asked at the end. An error leaves nothing of the world.
