@@ -1,16 +1,19 @@
 //! The program: hands files, the standard streams and the clock to `run` of `cj_top`, for the command that its words
-//! say.
+//! say, and to `explain` of `cj_explain`, which tells why it ended with an error.
 //!
-//! Promised: all that `run` promises, for what `cj_edge` tells of these objects. This file has no contract of its
-//! own; `checks/` tries the built program.
+//! Promised: all that `run` and `explain` promise, for what `cj_edge` tells of these objects. This file has no contract
+//! of its own; `checks/` tries the built program.
 //! To change: which store a command gets as its log is `log_store`. Everything else of a command is in `cj_top`.
 #![tactic(auto)]
 
 use cj_edge::{
     FileStore, Patient, StdSink, StdSource, SystemClock, WordsError, fill_standard_streams, words,
 };
+use cj_explain::{Explanation, FileFault, FileFaults, Noted, WordsFault, explain, tell};
+use cj_outside::Sink;
 use cj_top::{paths, run};
 use std::fs::File;
+use std::io::ErrorKind;
 use std::process::ExitCode;
 use std::rt::Files;
 
@@ -27,17 +30,40 @@ fn log_store<R: Files<File = File>>(rt: R, words: &[String], path: String) -> Fi
     FileStore::open(rt, path)
 }
 
+/// Tells why the words can't be had, and returns the status.
+fn refuse_words<E: Sink>(error: WordsError, errors: &mut E) -> ExitCode {
+    match error {
+        WordsError::NoMemory => {
+            tell(Explanation::Memory, errors);
+            ExitCode::from(1)
+        }
+        // A word that isn't UTF-8 is a faulty command line.
+        WordsError::NotUtf8 => {
+            tell(Explanation::Words(WordsFault::NotUtf8), errors);
+            ExitCode::from(2)
+        }
+    }
+}
+
+/// Returns what is known of the files, by the kinds of their last errors. If the configuration's file had none, the
+/// log's file is the one that failed.
+fn file_faults(conf: Option<ErrorKind>, log: Option<ErrorKind>) -> FileFaults {
+    FileFaults {
+        conf: conf.map(FileFault::of),
+        log: Some(log.map_or(FileFault::Failed, FileFault::of)),
+    }
+}
+
 fn main(rt: HostRuntime) -> ExitCode {
     // Before the first file, which would take the place of a stream that is closed. Which one that is isn't known,
     // and none was used yet, so the status is the one for out of memory.
     if fill_standard_streams(&rt).is_err() {
         return ExitCode::from(1);
     }
+    let mut errors = StdSink::new(Patient::new(rt.stderr(), rt));
     let words = match words(&rt) {
         Ok(words) => words,
-        Err(WordsError::NoMemory) => return ExitCode::from(1),
-        // A word that isn't UTF-8 is a faulty command line.
-        Err(WordsError::NotUtf8) => return ExitCode::from(2),
+        Err(error) => return refuse_words(error, &mut errors),
     };
     // Where the words are no command `run` reads no configuration.
     let conf_path = paths(&words).map_or("", |paths| paths.conf);
@@ -49,9 +75,13 @@ fn main(rt: HostRuntime) -> ExitCode {
     };
     let mut conf = FileStore::open_to_read(rt, conf_path);
     let log = log_store(rt, &words, log_path);
-    let mut input = StdSource::new(Patient::new(rt.reader(), rt));
+    let log_cause = log.cause();
+    let is_script = words
+        .first()
+        .map_or(false, |word| word.as_str() == "script");
+    let source = StdSource::new(Patient::new(rt.reader(), rt));
+    let mut input = Noted::new(rt.alloc(), source, is_script);
     let mut output = StdSink::new(Patient::new(rt.stdout(), rt));
-    let mut errors = StdSink::new(Patient::new(rt.stderr(), rt));
     let clock = SystemClock::new(rt);
     let ended = run(
         rt.alloc(),
@@ -62,6 +92,17 @@ fn main(rt: HostRuntime) -> ExitCode {
         &mut output,
         &mut errors,
         &clock,
+    );
+    let files = file_faults(conf.cause(), log_cause);
+    let taken = input.taken();
+    explain(
+        rt.alloc(),
+        ended.status,
+        &words,
+        &mut conf,
+        taken,
+        &files,
+        &mut errors,
     );
     ExitCode::from(ended.status)
 }
