@@ -9,6 +9,7 @@ use Rattle.cj_replica.specs.Seated.{SeatedCell}
 use Rattle.cj_state.specs.Seats.{states_of}
 use Rattle.cj_top.proofs.Common.{Arming, BackendKind, CellState, MemoryState}
 use Rattle.cj_top.specs.Configured.{is_memory}
+use Rattle.cj_workload.specs.Holdings.{times_armed}
 
 -- what was found of the kinds
 pub by_kinds : (kinds given : List BackendKind) (found answer : Bool) → given ≡ kinds → found ≡ list_all is_memory given → found ≡ answer → list_all is_memory kinds ≡ answer
@@ -25,6 +26,16 @@ own_within f only =
 pub counted_within : (f : FlakyState MemoryState) (x : CellState) → faults_by (λ (s : MemoryState). 0) f ≡ x.faults → arming_of f ≡ x.arming → FailsOnlyArmed (arming_of f) f.faults → x.faults ≤ x.arming.times
 counted_within f x faults arming only =
     subst (λ (n : ℕ). n ≤ x.arming.times) faults (subst (λ (a : Arming). faults_by (λ (s : MemoryState). 0) f ≤ a.times) arming (own_within f only))
+
+-- and as its place in a list says
+pub backend_within : (backends : List (FlakyState MemoryState)) (f : FlakyState MemoryState) (i : ℕ) → i < length backends → f ≡ get_or backends i f → FailsOnlyArmed (arming_of f) f.faults
+    → get_or (map (faults_by (λ (s : MemoryState). 0)) backends) i 0 ≤ get_or (times_armed arming_of backends) i 0
+backend_within backends f i lt is only =
+    let counted : get_or (map (faults_by (λ (s : MemoryState). 0)) backends) i 0 ≡ faults_by (λ (s : MemoryState). 0) f =
+    get_or-map (faults_by (λ (s : MemoryState). 0)) backends i f 0 lt ∙ ap (faults_by (λ (s : MemoryState). 0)) (sym is)
+    in
+    let times : get_or (times_armed arming_of backends) i 0 ≡ f.armings = get_or-map (λ (x : FlakyState MemoryState). x.armings) backends i f 0 lt ∙ ap (λ (x : FlakyState MemoryState). x.armings) (sym is) in
+    subst (λ (n : ℕ). n ≤ get_or (times_armed arming_of backends) i 0) (sym counted) (subst (λ (n : ℕ). faults_by (λ (s : MemoryState). 0) f ≤ n) (sym times) (own_within f only))
 
 -- a count of a cell
 pub count_of : (count : CellState → ℕ) (cells : List SeatedCell) (x : SeatedCell) (i : ℕ) → i < length cells → x ≡ get_or cells i x → get_or (map count (states_of cells)) i 0 ≡ count x.state
