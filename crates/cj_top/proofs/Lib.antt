@@ -1,3 +1,4 @@
+pub mod ArmedBackends
 pub mod AskedWords
 pub mod Cited
 pub mod Common

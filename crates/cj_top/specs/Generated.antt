@@ -12,6 +12,7 @@ use Rattle.cj_workload.specs.Summaries.{PlaysWorkload}
 use Rattle.cj_top.specs.Configured.{BeginsAsConfigured, in_memory}
 use Rattle.cj_top.specs.Logs.{Found}
 use Rattle.cj_top.specs.Program.{status_of_listing}
+use Rattle.cj_top.specs.Scripted.{HasFailedOnlyArmed}
 
 -- a line of a name and a number
 abbrev pub count_line : List ℕ → ℕ → List ℕ
@@ -33,6 +34,8 @@ pub record GeneratesAsConfigured (tells : Bool) (c : Conf) (seed count : ℕ) (s
   pub first : WorldState
   pub begins : BeginsAsConfigured tells c (Found true []) first
   pub plays : PlaysWorkload tells true seed count first s
+  -- backends in memory fail no more often than they were armed
+  pub armed : tells ≡ true → HasFailedOnlyArmed plays.ended.world
 
 -- A workload was played, and its summary written; where the output failed in it or memory was wanting, the status
 -- says so.

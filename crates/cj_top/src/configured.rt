@@ -21,10 +21,10 @@ use cj_book::BookParts;
 use cj_cache::Cache;
 use cj_conf::{BackendKind, Conf, ConfError, read_conf};
 use cj_core::{Backends, Parts};
-use cj_flaky::Flaky;
+use cj_flaky::Armable;
 use cj_lite::{AnyBackend, LiteBackend};
 use cj_mem::MemBackend;
-use cj_model::{ListOf, NoMemory};
+use cj_model::NoMemory;
 use cj_outside::{OutError, Sink, Store, StoreReadError, read_store, write_all};
 use std::alloc::Global;
 
@@ -127,12 +127,12 @@ pub fn any_backends(alloc: Global, kinds: &[BackendKind]) -> Result<Backends<Any
 pub fn flaky<B: Backend + Drop>(
     alloc: Global,
     backends: Backends<B>,
-) -> Result<Backends<Flaky<B>>, NoMemory>
+) -> Result<Backends<Armable<B>>, NoMemory>
     ensures { IfOk result (λ over. over ≡ map (λ b. fresh_over b []) backends) }
 {
     let mut over = Backends::new(alloc);
     for backend in backends.into_vec() {
-        over.push(Flaky::new(backend, ListOf::new(alloc)))?;
+        over.push(Armable::new(alloc, backend))?;
     }
     Ok(over)
 }

@@ -1,26 +1,33 @@
 //! A script over backends that can be armed.
 
-ghost use Rattle.std.specs.Prelude.{◌≡◌, ◌↔◌, ◌≢◌, true, length, map, IfErr, IfOk, IsErrOf, MatchResult, OnErr, string_bytes};
+ghost use Rattle.std.specs.Prelude.{◌≡◌, ◌↔◌, ◌≤◌, ◌≢◌, ℕ, true, length, map, slice_index_or, IfErr, IfOk, IsErrOf, MatchResult, OnErr, string_bytes};
 ghost use Rattle.std.specs.Result.{IsOkAnd};
 ghost use Rattle.cj_conf.specs.Confs.{IsUsable};
 ghost use Rattle.cj_outside.specs.Causes.{CountsFault};
 ghost use Rattle.cj_outside.specs.Streams.{WritesAll};
+ghost use Rattle.cj_script.specs.Script.{CameTo, InTurns};
 ghost use Rattle.cj_script.specs.declared.play.ScriptEnd.TheVariants as ends;
+ghost use Rattle.cj_state.specs.ArmedCells.{armings_of};
+ghost use Rattle.cj_state.specs.Faults.{faults_of};
+ghost use Rattle.cj_state.specs.Seats.{states_of};
+ghost use Rattle.cj_state.specs.Worlds.{WorldState};
 ghost use Rattle.cj_outside.specs.Stores.{Only};
 ghost use Rattle.cj_core.specs.Starts.{state_by};
 ghost use Rattle.cj_top.specs.Configured.{AreNew, BeginsAsConfigured, in_memory};
-ghost use Rattle.cj_top.specs.Logs.{Found, GoesOnIn, RefusesLog};
+ghost use Rattle.cj_top.specs.Logs.{Found, GoesOnIn, IsLogOf, RefusesLog};
 ghost use Rattle.cj_top.specs.Program as top;
-ghost use Rattle.cj_top.specs.Scripted.{NamesLine, PlaysAsConfigured, RunsScript, line_text};
+ghost use Rattle.cj_top.specs.Scripted.{HasFailedOnlyArmed, NamesLine, PlaysAsConfigured, RunsScript, line_text};
 
 use crate::configured::{any_backends, are_in_memory, flaky, memory_backends, parts_of};
 use cj_backend::Backend;
 use cj_book::StartError;
 use cj_conf::Conf;
-use cj_core::{Backends, World};
-use cj_flaky::Flaky;
+use cj_core::{Backends, Shared, World};
+use cj_flaky::Armable;
+use cj_mem::MemBackend;
 use cj_model::NoMemory;
 use cj_outside::{OutError, Sink, Source, Store, write_all};
+use cj_replica::Cell;
 use cj_script::{ScriptEnd, script};
 use std::alloc::Global;
 
@@ -31,7 +38,7 @@ pub fn flaky_world<B: Backend + Drop, S: Store + Drop>(
     conf: Conf,
     log: S,
     backends: Backends<B>,
-) -> Result<World<Flaky<B>, S>, (StartError, S)>
+) -> Result<World<Armable<B>, S>, (StartError, S)>
     requires usable { IsUsable conf }
     requires new { AreNew B.tells (length conf.placement.names) (map (state_by B.told B.faults B.asks B.login B.arming) backends) (map B.begun backends) }
     requires disk { S.tells ≡ true → Only (S.held log) (S.may log) }
@@ -48,7 +55,7 @@ pub fn flaky_world<B: Backend + Drop, S: Store + Drop>(
     World::start(alloc, parts, log, backends)
 }
 
-/// Plays the lines of the input on a world of these backends over the log, and gives the log's store back.
+/// Plays the lines of the input on a world of these backends over the log, and gives the world back.
 fn play_over<B: Backend + Drop, S: Store + Drop, I: Source, O: Sink>(
     alloc: Global,
     conf: Conf,
@@ -56,11 +63,12 @@ fn play_over<B: Backend + Drop, S: Store + Drop, I: Source, O: Sink>(
     backends: Backends<B>,
     input: &mut I,
     output: &mut O,
-) -> Result<(ScriptEnd, S), (StartError, S)>
+) -> Result<(ScriptEnd, World<Armable<B>, S>), (StartError, S)>
     requires usable { IsUsable conf }
     requires new { AreNew B.tells (length conf.placement.names) (map (state_by B.told B.faults B.asks B.login B.arming) backends) (map B.begun backends) }
     requires disk { S.tells ≡ true → Only (S.held log) (S.may log) }
-    ensures played { IfOk result (λ (end, left). PlaysAsConfigured B.tells conf (Found S.tells (S.held log)) (GoesOnIn S.faults S.held S.may S.tells log left) (I.left input.old) (I.left input.new) (O.held output.old) (O.held output.new) end) }
+    ensures played { IfOk result (λ (end, last). (first : WorldState) × BeginsAsConfigured B.tells conf (Found S.tells (S.held log)) first × (first.recovery_log.faults ≡ S.faults log)
+        × CameTo B.tells true first.setup.names (I.left input.old) (I.left input.new) (O.held output.old) (O.held output.new) first end last × InTurns B.tells first.setup.names (I.left input.old) (I.left input.new) (O.held output.old) (O.held output.new) first last) }
     ensures refused { IfErr result (λ (error, left). RefusesLog S.faults S.held S.tells log left error) }
     ensures unbegun { OnErr result ((input.new ≡ input.old) × (output.new ≡ output.old)) }
     ensures input { CountsFault (IsOkAnd result (λ (end, _). end ≡ ends.ReadFault)) (I.faults input.old) (I.faults input.new) }
@@ -68,7 +76,28 @@ fn play_over<B: Backend + Drop, S: Store + Drop, I: Source, O: Sink>(
 {
     let mut world = flaky_world(alloc, conf, log, backends)?;
     let end = script(alloc, &mut world, input, output);
-    Ok((end, world.into_log()))
+    Ok((end, world))
+}
+
+/// Shows that no backend in memory has failed more often than it was armed.
+fn show_armed(cells: &[Cell<Armable<MemBackend>>])
+    ensures { (b : ℕ) → slice_index_or (faults_of (states_of cells.now)) b 0 ≤ slice_index_or (armings_of (states_of cells.now)) b 0 }
+{
+    for cell in cells {
+        cell.backend().legal();
+    }
+}
+
+/// Gives up a world over backends in memory, by its log's store. That it is taken apart shows that none of them has
+/// failed more often than it was armed.
+fn log_over_memory<S: Store + Drop>(world: World<Armable<MemBackend>, S>) -> S
+    ensures left { IsLogOf S.faults S.held S.may S.tells world result }
+    ensures armed { HasFailedOnlyArmed world }
+{
+    let Shared { book, cells, .. } = world.into_shared();
+    show_armed(&cells);
+    book.legal();
+    book.into_log()
 }
 
 /// Plays the lines of the input on a world of new backends, as the configuration has them, over the log, and writes
@@ -95,12 +124,14 @@ pub fn play<S: Store + Drop, I: Source, O: Sink>(
         let Ok(backends) = memory_backends(alloc, conf.placement.count()) else {
             return Err((StartError::NoMemory, log));
         };
-        return play_over(alloc, conf, log, backends, input, output);
+        let (end, world) = play_over(alloc, conf, log, backends, input, output)?;
+        return Ok((end, log_over_memory(world)));
     }
     let Ok(backends) = any_backends(alloc, conf.kinds.as_slice()) else {
         return Err((StartError::NoMemory, log));
     };
-    play_over(alloc, conf, log, backends, input, output)
+    let (end, world) = play_over(alloc, conf, log, backends, input, output)?;
+    Ok((end, world.into_log()))
 }
 
 fn line_words(alloc: Global, number: u64) -> Result<String, NoMemory>
