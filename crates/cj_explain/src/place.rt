@@ -44,10 +44,7 @@ fn front_of(alloc: Global, table: &Table, list: Key) -> Result<Option<String>, N
         return Ok(None);
     };
     let front = match list {
-        Key::Backends => String::from_str(
-            alloc,
-            "level = \"raidb1\"\nusers = []\nbackends = [",
-        )?,
+        Key::Backends => String::from_str(alloc, "level = \"raidb1\"\nusers = []\nbackends = [")?,
         Key::Tables => {
             format!(in alloc; "level = {level}\nbackends = {backends}\nusers = []\ntables = [")?
         }
@@ -118,12 +115,7 @@ fn is_secret(key: &str) -> bool {
 }
 
 /// Writes what stands at the key, or only its type if it is long or secret.
-fn add_value(
-    alloc: Global,
-    text: &mut String,
-    key: &str,
-    value: &Value,
-) -> Result<(), NoMemory> {
+fn add_value(alloc: Global, text: &mut String, key: &str, value: &Value) -> Result<(), NoMemory> {
     let shown = format!(in alloc; "{value}")?;
     let found = if is_secret(key) || shown.len() > SHOWN_LIMIT {
         format!(in alloc; ": `{key}` is of the type {}", value.type_str())?
@@ -146,18 +138,18 @@ fn value_at<'a>(table: &'a Table, row: Option<Row<'a>>, key: &str) -> Option<&'a
 }
 
 /// Returns where the configuration of this document is refused, or `None` if there is nothing to say.
-fn place_in(
-    alloc: Global,
-    table: &Table,
-    error: &ConfError,
-) -> Result<Option<String>, NoMemory> {
+fn place_in(alloc: Global, table: &Table, error: &ConfError) -> Result<Option<String>, NoMemory> {
     let number = error.number();
     let Ok(key) = std::str::from_utf8(error.key()) else {
         return Ok(None);
     };
     let row = row_of(alloc, table, error)?;
     let has_value = FIRST_OF_VALUE <= number && number <= LAST_OF_VALUE;
-    let value = if has_value { value_at(table, row, key) } else { None };
+    let value = if has_value {
+        value_at(table, row, key)
+    } else {
+        None
+    };
     if row.is_none() && value.is_none() {
         return Ok(None);
     }

@@ -28,8 +28,7 @@ pub const WORKLOAD_WORDS: &[u8] =
 
 pub const NOT_UTF8: &[u8] = b"a word of the command line is not UTF-8\n";
 
-pub const CUT: &[u8] =
-    b"the input ended inside a frame: each request before it has its reply\n";
+pub const CUT: &[u8] = b"the input ended inside a frame: each request before it has its reply\n";
 
 pub const BAD_FRAME: &[u8] =
     b"a frame is faulty: the last reply says how (docs/FORMATS.md), and each request before it has its reply\n";
@@ -70,7 +69,8 @@ pub const BAD_LISTING: &[u8] =
 pub const SESSIONS_FULL: &[u8] =
     b"the recovery log, CONF.log, has the last session number there is: move it away and start again\n";
 
-pub const LONG_LINE: &[u8] = b"the line has more than 65536 bytes; the lines before it were played\n";
+pub const LONG_LINE: &[u8] =
+    b"the line has more than 65536 bytes; the lines before it were played\n";
 
 pub const NO_MOVE: &[u8] =
     b"the line's first word is no move (docs/SCRIPT.md lists them); the lines before it were played\n";
