@@ -65,6 +65,7 @@ fn of_line<F: Store>(alloc: Global, conf: &mut F, taken: &Taken) -> Explanation
 }
 
 /// Returns the explanation of a status, or `None` if none has it.
+#[tactic(auto, using(crate::proofs::Statuses::none_has))]
 fn explanation_of<F: Store>(
     alloc: Global,
     status: u8,

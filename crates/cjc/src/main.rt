@@ -12,19 +12,37 @@ use cj_edge::{
 use cj_explain::{Explanation, FileFault, FileFaults, Noted, WordsFault, explain, tell};
 use cj_outside::Sink;
 use cj_top::{paths, run};
+use std::alloc::Global;
 use std::fs::File;
 use std::io::ErrorKind;
 use std::process::ExitCode;
 use std::rt::Files;
 
+/// Returns the first word, or no text if there is none.
+fn verb(words: &[String]) -> &str {
+    words.first().map_or("", |word| word.as_str())
+}
+
+/// Returns the paths of the configuration and of the recovery log, or `None` if memory runs out. Where the words are no
+/// command `run` uses neither.
+fn file_paths(alloc: Global, words: &[String]) -> Option<(String, String)> {
+    let conf = paths(words).map_or("", |paths| paths.conf);
+    let Ok(log) = format!(in alloc; "{conf}.log") else {
+        return None;
+    };
+    let Ok(conf) = String::from_str(alloc, conf) else {
+        return None;
+    };
+    Some((conf, log))
+}
+
 /// Opens the recovery log as the command uses it. `log` leaves the file to the program that writes
 /// it. `gen`, and words that are no command, touch no file.
 fn log_store<R: Files<File = File>>(rt: R, words: &[String], path: String) -> FileStore<R> {
-    let verb = words.first().map_or("", |word| word.as_str());
-    if verb == "gen" || paths(words).is_none() {
+    if verb(words) == "gen" || paths(words).is_none() {
         return FileStore::none(rt, path);
     }
-    if verb == "log" {
+    if verb(words) == "log" {
         return FileStore::open_to_list(rt, path);
     }
     FileStore::open(rt, path)
@@ -65,24 +83,15 @@ fn main(rt: HostRuntime) -> ExitCode {
         Ok(words) => words,
         Err(error) => return refuse_words(error, &mut errors),
     };
-    // Where the words are no command `run` reads no configuration.
-    let conf_path = paths(&words).map_or("", |paths| paths.conf);
-    let Ok(log_path) = format!(in rt.alloc(); "{conf_path}.log") else {
-        return ExitCode::from(1);
-    };
-    let Ok(conf_path) = String::from_str(rt.alloc(), conf_path) else {
-        return ExitCode::from(1);
+    let Some((conf_path, log_path)) = file_paths(rt.alloc(), &words) else {
+        return refuse_words(WordsError::NoMemory, &mut errors);
     };
     let mut conf = FileStore::open_to_read(rt, conf_path);
     let log = log_store(rt, &words, log_path);
     let log_cause = log.cause();
-    let is_script = words
-        .first()
-        .map_or(false, |word| word.as_str() == "script");
     let source = StdSource::new(Patient::new(rt.reader(), rt));
-    let mut input = Noted::new(rt.alloc(), source, is_script);
+    let mut input = Noted::new(rt.alloc(), source, verb(&words) == "script");
     let mut output = StdSink::new(Patient::new(rt.stdout(), rt));
-    let clock = SystemClock::new(rt);
     let ended = run(
         rt.alloc(),
         &words,
@@ -91,16 +100,15 @@ fn main(rt: HostRuntime) -> ExitCode {
         &mut input,
         &mut output,
         &mut errors,
-        &clock,
+        &SystemClock::new(rt),
     );
     let files = file_faults(conf.cause(), log_cause);
-    let taken = input.taken();
     explain(
         rt.alloc(),
         ended.status,
         &words,
         &mut conf,
-        taken,
+        input.taken(),
         &files,
         &mut errors,
     );
