@@ -8,9 +8,9 @@ use Rattle.cj_workload.proofs.playing.write.Goals as goal
 pub returns-clause-turn : goal.returns-clause-turn
 returns-clause-turn g c =
     let a = c.args.solo.now in
-    let z = c.write_telling_starved-starved.new.self in
-    let reply = c.write_telling_starved-starved.result.0 in
-    let asked = c.write_telling_starved-starved.ensures in
+    let z = c.write_telling_starved-reply.new.self in
+    let reply = c.write_telling_starved-reply.result.0 in
+    let asked = c.write_telling_starved-reply.ensures in
     record {
       reply = reply;
       turn = subst (λ (user : List ℕ). SoloSteps g.B.Backend.tells a (turn_taken (next_call (desk_of a) 0 user (request_of c.args.act) reply)) z) c.requires.user asked.made;
@@ -21,4 +21,4 @@ returns-clause-turn g c =
 
 pub returns-clause-keeps : goal.returns-clause-keeps
 returns-clause-keeps g c =
-    keeps_turned g.B.Backend.tells c.args.solo.now c.write_telling_starved-starved.new.self 0 c.args.user.now (request_of c.args.act) c.write_telling_starved-starved.result.0 c.write_telling_starved-starved.ensures.made c.in_ok-go_on.ensures.logged
+    keeps_turned g.B.Backend.tells c.args.solo.now c.write_telling_starved-reply.new.self 0 c.args.user.now (request_of c.args.act) c.write_telling_starved-reply.result.0 c.write_telling_starved-reply.ensures.made c.in_ok-go_on.ensures.logged
