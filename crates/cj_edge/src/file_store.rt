@@ -21,8 +21,6 @@ pub struct FileStore<R> {
     path: String,
     standing: Standing,
     faults: u64,
-    /// The kind of the last error of the system.
-    cause: Option<ErrorKind>,
 }
 
 impl<R: Files<File = File>> FileStore<R> {
@@ -64,16 +62,6 @@ impl<R: Files<File = File>> FileStore<R> {
             path,
             standing,
             faults: 0,
-            cause: None,
-        }
-    }
-
-    /// Returns the kind of the last error: that of the last call that failed, or the one that each call meets since the
-    /// file can't be opened. `None` if there was none.
-    pub fn cause(&self) -> Option<ErrorKind> {
-        match (self.cause, &self.standing) {
-            (None, Standing::Refused(error)) => Some(error.kind()),
-            (cause, _) => cause,
         }
     }
 
@@ -113,11 +101,10 @@ impl<R: Files<File = File>> FileStore<R> {
         }
     }
 
-    fn count_fault(&mut self, cause: ErrorKind)
+    fn count_fault(&mut self)
         ensures { self.new.faults ≡ next self.old.faults }
     {
         self.faults = self.faults.saturating_add(1);
-        self.cause = Some(cause);
     }
 }
 
@@ -147,12 +134,8 @@ impl<R: Files<File = File>> Store for FileStore<R> {
     fn len(&mut self) -> Result<u64, Failed> {
         match self.standing.len() {
             Ok(len) if len <= MOST => Ok(len),
-            Ok(_) => {
-                self.count_fault(ErrorKind::FileTooLarge);
-                Err(Failed)
-            }
-            Err(error) => {
-                self.count_fault(error.kind());
+            _ => {
+                self.count_fault();
                 Err(Failed)
             }
         }
@@ -161,8 +144,8 @@ impl<R: Files<File = File>> Store for FileStore<R> {
     fn read_at(&mut self, at: u64, buf: &mut [u8]) -> Result<usize, Failed> {
         match self.standing.read_at(at, buf) {
             Ok(count) => Ok(count),
-            Err(error) => {
-                self.count_fault(error.kind());
+            Err(_) => {
+                self.count_fault();
                 Err(Failed)
             }
         }
@@ -171,8 +154,8 @@ impl<R: Files<File = File>> Store for FileStore<R> {
     fn write_at(&mut self, at: u64, bytes: &[u8]) -> Result<(), OutError> {
         match self.write(at, bytes) {
             Ok(()) => Ok(()),
-            Err(error) => {
-                self.count_fault(error.kind());
+            Err(_) => {
+                self.count_fault();
                 Err(OutError::Failed)
             }
         }
@@ -181,8 +164,8 @@ impl<R: Files<File = File>> Store for FileStore<R> {
     fn sync(&mut self) -> Result<(), Failed> {
         match self.standing.sync() {
             Ok(()) => Ok(()),
-            Err(error) => {
-                self.count_fault(error.kind());
+            Err(_) => {
+                self.count_fault();
                 Err(Failed)
             }
         }

@@ -9,7 +9,6 @@ use Rattle.cj_cases.specs.declared.runner.Outcome.{Outcome}
 use Rattle.cj_args.specs.Words.{AsksCommand, Says}
 use Rattle.cj_args.specs.declared.asked.Asked.{Asked}
 use Rattle.cj_args.specs.declared.asked.Command.{Command}
-use Rattle.cj_explain.specs.Explanations.{Explains}
 use Rattle.cj_log.specs.Logs.{KeepsItems}
 use Rattle.cj_log.specs.declared.item.LogItem.{LogItem}
 use Rattle.cj_top.specs.Completeness.{GoesOnFrom}
@@ -67,19 +66,12 @@ pub record KeepsPromises (words : List (List ℕ)) (log after : State) (moment :
   pub output : CountsFault (status ≡ 6) a.output.faults z.output.faults
   pub opens : true ≡ true → (command : Command) → Says words command → (items : List LogItem) → KeepsItems log.bytes items → GoesOnFrom command items → (status ≢ 8) × (status ≢ 12)
 
--- The errors were told why a run ended with this status, and the output is as it was.
-pub record IsExplained (a z : Objects) (status : ℕ) : Type 0 where
-  pub told : Explains (Some a.errors.bytes) (Some z.errors.bytes) a.errors.faults z.errors.faults status
-  pub output : z.output ≡ a.output
-
--- A run of the case gave this: its status, the output and what it left of the log are those of the program over the
--- objects of the case. The errors are what that run wrote, and the explanation of its status after it.
+-- A run of the case gave this: its status, what it wrote and what it left of the log are those of the program over
+-- the objects of the case.
 pub record GivesAsRun (c : CaseState) (outcome : Outcome) : Type 0 where
   pub left : Objects
   pub log : State
   pub keeps : KeepsPromises c.words (handed c.log c.fails.log) log MOMENT (objects_of c) left outcome.status
-  pub last : Objects
-  pub explained : IsExplained left last outcome.status
   pub output : outcome.output.items ≡ left.output.bytes
-  pub errors : outcome.errors.items ≡ last.errors.bytes
+  pub errors : outcome.errors.items ≡ left.errors.bytes
   pub log_left : outcome.log.items ≡ log.bytes

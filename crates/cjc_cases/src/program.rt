@@ -1,10 +1,9 @@
 //! The program on a case, over memory.
 
 ghost use Rattle.std.specs.Prelude.{◌≡◌, [], IfOk, map, string_bytes};
-ghost use Rattle.cjc_cases.specs.Runs.{IsExplained, KeepsPromises, handed, objects_of};
+ghost use Rattle.cjc_cases.specs.Runs.{KeepsPromises, handed, objects_of};
 
 use cj_cases::{Case, Outcome, Pieces, Runner};
-use cj_explain::{FileFaults, Noted, explain};
 use cj_model::NoMemory;
 use cj_outside::{FixedClock, MemSink, MemSource, MemStore};
 use cj_top::{Ended, run};
@@ -21,7 +20,7 @@ pub struct Program;
 #[derive(Drop)]
 pub struct Objects {
     configuration: MemStore,
-    input: Noted<Pieces>,
+    input: Pieces,
     output: MemSink,
     errors: MemSink,
 }
@@ -32,13 +31,12 @@ fn store(alloc: Global, content: &[u8], fails: &[u64]) -> Result<MemStore, NoMem
     Ok(MemStore::new(content.to_vec(alloc)?, fails.to_vec(alloc)?))
 }
 
-fn source(alloc: Global, case: &Case) -> Result<Noted<Pieces>, NoMemory>
+fn source(alloc: Global, case: &Case) -> Result<Pieces, NoMemory>
     ensures { IfOk result (λ source. source ≡ handed case.now.input case.now.fails.input) }
 {
     let content = case.input().to_vec(alloc)?;
     let source = MemSource::new(content, case.input_fails().to_vec(alloc)?);
-    let pieces = Pieces::new(source, case.piece_limit());
-    Ok(Noted::new(alloc, pieces, true))
+    Ok(Pieces::new(source, case.piece_limit()))
 }
 
 fn sink(alloc: Global, fails: &[u64]) -> Result<MemSink, NoMemory>
@@ -80,21 +78,6 @@ fn run_over(
     )
 }
 
-/// Tells why a run of the case ended with this status.
-fn explain_over(alloc: Global, case: &Case, status: u8, objects: &mut Objects)
-    ensures { IsExplained objects.old objects.new status }
-{
-    explain(
-        alloc,
-        status,
-        case.words(),
-        &mut objects.configuration,
-        objects.input.taken(),
-        &FileFaults::unknown(),
-        &mut objects.errors,
-    );
-}
-
 fn copied(alloc: Global, sink: &MemSink) -> Result<Vec<u8>, NoMemory>
     ensures { IfOk result (λ bytes. bytes.items ≡ sink.now.bytes) }
 {
@@ -117,7 +100,6 @@ impl Runner for Program {
         let mut objects = handed_objects(alloc, case)?;
         let clock = FixedClock::new(MOMENT);
         let ended = run_over(alloc, case.words(), log, &mut objects, &clock);
-        explain_over(alloc, case, ended.status, &mut objects);
         Ok(Outcome {
             status: ended.status,
             output: copied(alloc, &objects.output)?,
