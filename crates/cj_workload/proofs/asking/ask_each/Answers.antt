@@ -1,9 +1,8 @@
-use Rattle.std.proofs.Common.{◌≡◌, ◌∙◌, sym, ap, subst, ◌+◌, ◌<◌, List, [], ◌∷◌, ◌++◌, length, true, false, arith, ⊎_elim}
+use Rattle.std.proofs.Common.{◌≡◌, ◌∙◌, sym, ap, subst, ℕ, ◌+◌, ◌<◌, List, [], ◌∷◌, ◌++◌, length, map, true, false, arith, ⊎_elim}
 use Rattle.std.proofs.lemmas.List.{append_assoc, length-append}
 use Rattle.std.proofs.lemmas.List.Elements.{All-push}
 use Rattle.cj_workload.proofs.Common.{All, both_ways, eq-or-lt_of_le, in_mask, rows_in, Slot, times_armed}
 use Rattle.cj_workload.proofs.Asked.{asked_rows, none_armed, none_counted, same_pushed}
-use Rattle.cj_backend.specs.Backends.{Arming}
 use Rattle.cj_workload.proofs.asking.ask_each.Goals as goal
 use Rattle.cj_workload.proofs.asking.ask_each.Goals.{then-has_bit+in_ok-contents+in_ok-push, else-has_bit}
 
@@ -20,7 +19,7 @@ loop-backend-preserved g c =
     let times : g.row.B.Denot → ℕ = λ (y : g.row.B.Denot). (g.B.Backend.arming y).times in
     let asked = c.loop-backend.asked in
     let back = c.if-has_bit.backend in
-    let more : c.in_ok-push-2.new.self ≡ asked ++ back ∷ [] = c.in_ok-push-2.ensures.ok in
+    let more = c.in_ok-push-2.ensures.ok in
     let items = c.args.backends.items in
     let joined : before ++ x ∷ [] ++ rest ≡ items = append_assoc before (x ∷ []) rest ∙ all in
     let place : c.loop-backend.b + 1 ≡ length (before ++ x ∷ []) = let here = i.place in omega (arith, here, long) in
