@@ -1,3 +1,2 @@
 pub mod BoardRows
-pub mod OwnPasses
 pub mod StarvedTurns

@@ -20,8 +20,6 @@ mod given;
 #[cfg(test)]
 mod kept_answers;
 #[cfg(test)]
-mod own_passes;
-#[cfg(test)]
 mod placements;
 #[cfg(test)]
 mod requests;
