@@ -3,8 +3,8 @@
 /// The files that a command names.
 #[derive(Clone, Copy)]
 pub struct Paths<'a> {
-    /// The file of the configuration.
+    /// That of its configuration.
     pub conf: &'a str,
-    /// The address at which connections are accepted; no command does so yet.
+    /// Where it accepts connections, which no command does yet.
     pub address: Option<&'a str>,
 }

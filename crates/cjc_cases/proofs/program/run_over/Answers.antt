@@ -7,9 +7,8 @@ returns c = record {
   text = c.run.ensures.text;
   other = c.run.ensures.other;
   quiet = c.run.ensures.quiet;
-  conf = c.run.ensures.conf;
   stores = c.run.ensures.stores;
   input = c.run.ensures.input;
   output = c.run.ensures.output;
-  opens = c.run.ensures.opens;
+  complete = c.run.ensures.complete;
 }
