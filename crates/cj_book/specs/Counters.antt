@@ -26,7 +26,7 @@ hearing None v = v
 hearing (Some w) v = knows_counted v w
 
 -- the event is counted, where it is one more of a session that has an own pass
-abbrev pub CanCount : {S : Type 0} → SeatedBook S → Option SeatView → Event → Type 0
+abbrev pub CanCount : SeatedBook → Option SeatView → Event → Type 0
 CanCount book own e = HasCountNotes (hearing own book.view).given book.state.history (hearing own book.view).count_notes e
 
 -- the book and the own pass after an event of the session that came, where one did

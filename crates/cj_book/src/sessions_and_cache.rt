@@ -14,7 +14,6 @@ use crate::error::SessionsFull;
 use crate::touching::is_touched_behind;
 use cj_balance::Balancer;
 use cj_model::{Answer, BACKEND_LIMIT, NoMemory, SESSION_LIMIT, SESSION_NUMBER_LIMIT, Select};
-use cj_outside::Store;
 
 /// A read begins at the backend.
 fn begin_read(balancer: &mut Balancer, b: u8)
@@ -27,7 +26,7 @@ fn begin_read(balancer: &mut Balancer, b: u8)
     }
 }
 
-impl<S: Store> Book<S> {
+impl Book {
     /// Opens a session of the next number. It takes no memory.
     pub fn open_session(&mut self) -> Result<u64, SessionsFull>
         ensures ok { OnOk result (self.new.state ≡ with_session self.old.state) }

@@ -11,7 +11,6 @@ ghost use Rattle.cj_book.specs.Touching.{has_table, is_written_in};
 
 use crate::book::Book;
 use cj_model::{Act, Entry, Name, NoMemory, Select, TableSet};
-use cj_outside::Store;
 use cj_usage::{lone, written};
 use std::alloc::Global;
 
@@ -40,8 +39,8 @@ fn add_written(tables: &mut TableSet, entry: Option<&Entry>, tx: u64) -> Result<
 }
 
 /// The tables that a transaction writes in the entries up to `end`. They stand behind its BEGIN, whose number it has.
-fn written_in<S: Store>(
-    book: &Book<S>,
+fn written_in(
+    book: &Book,
     alloc: Global,
     end: u64,
     tx: u64,
@@ -58,8 +57,8 @@ fn written_in<S: Store>(
 }
 
 /// The tables that an act of a transaction, 0 for none, touches behind the entries up to `end`.
-pub fn touched_behind<S: Store>(
-    book: &Book<S>,
+pub fn touched_behind(
+    book: &Book,
     alloc: Global,
     end: u64,
     tx: u64,
@@ -79,8 +78,8 @@ pub fn touched_behind<S: Store>(
 }
 
 /// Whether entry `n + 1` of the log touches a table that the query needs.
-fn touches_query<S: Store>(
-    book: &Book<S>,
+fn touches_query(
+    book: &Book,
     alloc: Global,
     n: u64,
     select: &Select,
@@ -104,8 +103,8 @@ fn touches_query<S: Store>(
 }
 
 /// Whether an entry behind a position of the log touches a table that the query needs.
-pub fn is_touched_behind<S: Store>(
-    book: &Book<S>,
+pub fn is_touched_behind(
+    book: &Book,
     alloc: Global,
     at: u64,
     select: &Select,
