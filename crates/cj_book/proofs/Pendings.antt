@@ -9,6 +9,7 @@ use Rattle.cj_book.specs.Pendings.{bare_book, pending_event, IsPendingEntry, IsP
 use Rattle.cj_book.specs.declared.pending.Pending.{Pending}
 use Rattle.cj_book.specs.declared.pending.Pending.TheVariants as pending
 use Rattle.cj_book.specs.declared.pending.Prepared.{Prepared}
+use Rattle.cj_book.proofs.Keeping.{marker_behind}
 use Rattle.cj_book.proofs.Numbered.{numbers_without}
 
 -- ---- which it is
@@ -30,6 +31,46 @@ module _ (layout : Layout) (h : List Event) (sessions : List ℕ) (greatest plac
   pending_idle None k some = absurd (some refl)
   pending_idle (Some (pending.Entry e p)) k some = k.idle
   pending_idle (Some (pending.Marker m)) k some = k.idle
+
+-- ---- what its caller finishes
+
+abbrev pub prepared_of : Option Pending → Option Prepared
+prepared_of None = None
+prepared_of (Some (pending.Entry e p)) = Some p
+prepared_of (Some (pending.Marker m)) = None
+
+abbrev pub marker_of_pending : Option Pending → Option LogMarker
+marker_of_pending None = None
+marker_of_pending (Some (pending.Entry e p)) = None
+marker_of_pending (Some (pending.Marker m)) = Some m
+
+pub some_prepared : (o : Option Pending) (e : Entry) → pending_event o ≡ Some (Sched e) → prepared_of o ≢ None
+some_prepared None e is none = absurd (cc is)
+some_prepared (Some (pending.Entry x p)) e is none = absurd (cc none)
+some_prepared (Some (pending.Marker m)) e is none = absurd (cc is)
+
+pub some_marker : (o : Option Pending) (name : List ℕ) (b : Option ℕ) → pending_event o ≡ Some (Marker name b) → marker_of_pending o ≢ None
+some_marker None name b is none = absurd (cc is)
+some_marker (Some (pending.Entry x p)) name b is none = absurd (cc is)
+some_marker (Some (pending.Marker m)) name b is none = absurd (cc none)
+
+module _ (layout : Layout) (h : List Event) (sessions : List ℕ) (greatest places marker_places tx_places : ℕ) where
+  pub entry_ready : (o : Option Pending) (e : Entry) (p : Prepared) → KeepsPending layout h sessions greatest places marker_places tx_places o → pending_event o ≡ Some (Sched e) → prepared_of o ≡ Some p → IsPendingEntry layout h sessions greatest places tx_places e p
+  entry_ready None e p k is there = absurd (cc is)
+  entry_ready (Some (pending.Entry x q)) e p k is there =
+      let one : x.value ≡ e = cc is in
+      let same : q ≡ p = cc there in
+      subst (λ (y : Entry × Prepared). IsPendingEntry layout h sessions greatest places tx_places y.0 y.1) (λ i. (one i, same i)) k
+  entry_ready (Some (pending.Marker m)) e p k is there = absurd (cc is)
+
+  pub marker_ready : (o : Option Pending) (name : List ℕ) (b : Option ℕ) (m : LogMarker) → KeepsPending layout h sessions greatest places marker_places tx_places o → pending_event o ≡ Some (Marker name b) → marker_of_pending o ≡ Some m → IsPendingMarker h marker_places m × (m ≡ marker_behind h name b)
+  marker_ready None name b m k is there = absurd (cc is)
+  marker_ready (Some (pending.Entry x q)) name b m k is there = absurd (cc is)
+  marker_ready (Some (pending.Marker n)) name b m k is there =
+      let same : n ≡ m = cc there in
+      let named : n.name ≡ name = cc is in
+      let backend : n.b ≡ b = cc is in
+      (subst (λ (x : LogMarker). IsPendingMarker h marker_places x) same k, sym same ∙ (λ i. record { after = k.after i; name = named i; b = backend i }))
 
 -- ---- while sessions come and go
 
