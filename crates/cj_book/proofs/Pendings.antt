@@ -5,7 +5,7 @@ use Rattle.std.proofs.lemmas.List.{map-append}
 use Rattle.std.proofs.lemmas.List.Elements.{All-get_or}
 use Rattle.std.proofs.lemmas.List.Folds.{list_any-append}
 use Rattle.cj_book.proofs.Common.{and_parts, book_session, BookSession, Entry, entry_numbered, Event, get_or_from_slice_get, is_free, is_orphan, is_orphan_of, Layout, list_any, log, Marker, Sched, session_number, slice_get_within, tx_of, without}
-use Rattle.cj_book.specs.Pendings.{bare_book, pending_event, IsPendingEntry, IsPendingMarker, KeepsPending}
+use Rattle.cj_book.specs.Pendings.{bare_book, marker_of, pending_event, prepared_of, IsPendingEntry, IsPendingMarker, KeepsPending}
 use Rattle.cj_book.specs.declared.pending.Pending.{Pending}
 use Rattle.cj_book.specs.declared.pending.Pending.TheVariants as pending
 use Rattle.cj_book.specs.declared.pending.Prepared.{Prepared}
@@ -34,22 +34,12 @@ module _ (layout : Layout) (h : List Event) (sessions : List ℕ) (greatest plac
 
 -- ---- what its caller finishes
 
-abbrev pub prepared_of : Option Pending → Option Prepared
-prepared_of None = None
-prepared_of (Some (pending.Entry e p)) = Some p
-prepared_of (Some (pending.Marker m)) = None
-
-abbrev pub marker_of_pending : Option Pending → Option LogMarker
-marker_of_pending None = None
-marker_of_pending (Some (pending.Entry e p)) = None
-marker_of_pending (Some (pending.Marker m)) = Some m
-
 pub some_prepared : (o : Option Pending) (e : Entry) → pending_event o ≡ Some (Sched e) → prepared_of o ≢ None
 some_prepared None e is none = absurd (cc is)
 some_prepared (Some (pending.Entry x p)) e is none = absurd (cc none)
 some_prepared (Some (pending.Marker m)) e is none = absurd (cc is)
 
-pub some_marker : (o : Option Pending) (name : List ℕ) (b : Option ℕ) → pending_event o ≡ Some (Marker name b) → marker_of_pending o ≢ None
+pub some_marker : (o : Option Pending) (name : List ℕ) (b : Option ℕ) → pending_event o ≡ Some (Marker name b) → marker_of o ≢ None
 some_marker None name b is none = absurd (cc is)
 some_marker (Some (pending.Entry x p)) name b is none = absurd (cc is)
 some_marker (Some (pending.Marker m)) name b is none = absurd (cc none)
@@ -63,7 +53,7 @@ module _ (layout : Layout) (h : List Event) (sessions : List ℕ) (greatest plac
       subst (λ (y : Entry × Prepared). IsPendingEntry layout h sessions greatest places tx_places y.0 y.1) (λ i. (one i, same i)) k
   entry_ready (Some (pending.Marker m)) e p k is there = absurd (cc is)
 
-  pub marker_ready : (o : Option Pending) (name : List ℕ) (b : Option ℕ) (m : LogMarker) → KeepsPending layout h sessions greatest places marker_places tx_places o → pending_event o ≡ Some (Marker name b) → marker_of_pending o ≡ Some m → IsPendingMarker h marker_places m × (m ≡ marker_behind h name b)
+  pub marker_ready : (o : Option Pending) (name : List ℕ) (b : Option ℕ) (m : LogMarker) → KeepsPending layout h sessions greatest places marker_places tx_places o → pending_event o ≡ Some (Marker name b) → marker_of o ≡ Some m → IsPendingMarker h marker_places m × (m ≡ marker_behind h name b)
   marker_ready None name b m k is there = absurd (cc is)
   marker_ready (Some (pending.Entry x q)) name b m k is there = absurd (cc is)
   marker_ready (Some (pending.Marker n)) name b m k is there =

@@ -24,6 +24,18 @@ pending_event None = None
 pending_event (Some (pending.Entry e prepared)) = Some (Sched e.value)
 pending_event (Some (pending.Marker m)) = Some (Marker m.name m.b)
 
+-- what is prepared for the entry that is pending
+abbrev pub prepared_of : Option Pending → Option Prepared
+prepared_of None = None
+prepared_of (Some (pending.Entry e prepared)) = Some prepared
+prepared_of (Some (pending.Marker m)) = None
+
+-- the marker that is pending
+abbrev pub marker_of : Option Pending → Option LogMarker
+marker_of None = None
+marker_of (Some (pending.Entry e prepared)) = None
+marker_of (Some (pending.Marker m)) = Some m
+
 -- a book of which neither the cache nor the balancer is seen
 abbrev pub bare_book : Layout → List Event → List ℕ → ℕ → BookState
 bare_book layout h sessions greatest = record { layout = layout; history = h; sessions = sessions; greatest = greatest; balance = record { policy = RoundRobin; weights = []; standing = at_rest }; cache = empty_cache 0 }

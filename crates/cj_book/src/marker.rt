@@ -13,7 +13,7 @@ ghost use Rattle.cj_book.specs.Seated.{event_or_fault, view_after, GivesOwnPasse
 use crate::book::Book;
 use crate::book_log::BookLog;
 use crate::error::BookError;
-use crate::pending::Pending;
+use crate::pending::{self, Pending};
 use cj_board::Board;
 use cj_cluster::Event;
 use cj_log::{LogError, LogItem, LogMarker};
@@ -105,9 +105,7 @@ impl Book {
         ensures seat { self.new.view ≡ view_after (event_or_fault (Event.Marker name.now b) (Event.LogFailed 0 0) result) self.old.view }
     {
         let number = self.length();
-        let Some(Pending::Marker(marker)) = mem::replace(&mut self.pending, None) else {
-            unreachable!()
-        };
+        let marker = pending::marker_of(mem::replace(&mut self.pending, None));
         match appended {
             Ok(()) => {}
             Err(LogError::NoMemory) => return Err(BookError::NoMemory),

@@ -1,5 +1,8 @@
 //! An entry or a marker whose item is on its way into the recovery log.
 
+ghost use Rattle.std.specs.Prelude.{◌≡◌, ◌≢◌, None, Some};
+ghost use Rattle.cj_book.specs.Pendings as pendings;
+
 use cj_cluster::BoxedEntry;
 use cj_log::LogMarker;
 use cj_model::{Entry, TableSet};
@@ -21,4 +24,28 @@ pub enum Pending {
     /// The entry itself is with the caller.
     Entry(Snapshot<Entry>, Prepared),
     Marker(LogMarker),
+}
+
+/// What is prepared for the entry that is pending.
+pub fn prepared_of(pending: Option<Pending>) -> Prepared
+    requires { pendings.prepared_of pending ≢ None }
+    ensures { pendings.prepared_of pending ≡ Some result }
+{
+    match pending {
+        Some(Pending::Entry(_, prepared)) => prepared,
+        Some(Pending::Marker(_)) => unreachable!(),
+        None => unreachable!(),
+    }
+}
+
+/// The marker that is pending.
+pub fn marker_of(pending: Option<Pending>) -> LogMarker
+    requires { pendings.marker_of pending ≢ None }
+    ensures { pendings.marker_of pending ≡ Some result }
+{
+    match pending {
+        Some(Pending::Marker(marker)) => marker,
+        Some(Pending::Entry(_, _)) => unreachable!(),
+        None => unreachable!(),
+    }
 }

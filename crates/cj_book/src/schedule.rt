@@ -18,7 +18,7 @@ use crate::book::Book;
 use crate::book_log::BookLog;
 use crate::counter::{Counter, announce};
 use crate::error::BookError;
-use crate::pending::Pending;
+use crate::pending::{Pending, prepared_of};
 use cj_board::{Board, BookSeat};
 use cj_cluster::{BoxedEntry, Event};
 use cj_log::{LogError, LogItem};
@@ -159,9 +159,7 @@ impl Book {
         ensures own { own_view counter.new ≡ pass_after (event_or_fault (Event.Sched e) (Event.LogFailed e.session e.seq) result) (own_view counter.old) self.old.view }
     {
         let number = self.length() + 1;
-        let Some(Pending::Entry(_, prepared)) = mem::replace(&mut self.pending, None) else {
-            unreachable!()
-        };
+        let prepared = prepared_of(mem::replace(&mut self.pending, None));
         match appended {
             Ok(()) => {}
             Err(LogError::NoMemory) => return Err(BookError::NoMemory),
