@@ -44,6 +44,9 @@ some_marker None name b is none = absurd (cc is)
 some_marker (Some (pending.Entry x p)) name b is none = absurd (cc is)
 some_marker (Some (pending.Marker m)) name b is none = absurd (cc none)
 
+abbrev marker_at : ℕ → List ℕ → Option ℕ → LogMarker
+marker_at n name b = record { after = n; name = name; b = b }
+
 module _ (layout : Layout) (h : List Event) (sessions : List ℕ) (greatest places marker_places tx_places : ℕ) where
   pub entry_ready : (o : Option Pending) (e : Entry) (p : Prepared) → KeepsPending layout h sessions greatest places marker_places tx_places o → pending_event o ≡ Some (Sched e) → prepared_of o ≡ Some p → IsPendingEntry layout h sessions greatest places tx_places e p
   entry_ready None e p k is there = absurd (cc is)
@@ -60,7 +63,7 @@ module _ (layout : Layout) (h : List Event) (sessions : List ℕ) (greatest plac
       let same : n ≡ m = cc there in
       let named : n.name ≡ name = cc is in
       let backend : n.b ≡ b = cc is in
-      (subst (λ (x : LogMarker). IsPendingMarker h marker_places x) same k, sym same ∙ (λ i. record { after = k.after i; name = named i; b = backend i }))
+      (subst (λ (x : LogMarker). IsPendingMarker h marker_places x) same k, sym same ∙ (λ i. marker_at (k.after i) (named i) (backend i)))
 
 -- ---- while sessions come and go
 

@@ -116,6 +116,10 @@ module _ {T : Type 0} (old : BookState) where
 
 -- ---- the log wasn't asked
 
+-- the same error of another answer
+as_other : {T U : Type 0} (d e : BookError) → IsErrOf {T = T} (Err d) e → IsErrOf {T = U} (Err d) e
+as_other {U = U} d e is = let same : d ≡ e = cc is in subst (λ (x : BookError). IsErrOf {T = U} (Err d) x) same refl
+
 module _ {S : Type 0} (tells : Bool) (faults moment : S → ℕ) (since : S → ℕ → List ℕ → Type 0) (may : S → List ℕ → Type 0) (old : BookState) (l : LogState S)
     (now : tells ≡ true → (item : LogItem) → LeavesOnly moment since l.store l.store (IsBeforeOrAfter l item)) where
   pub unbegun : {T : Type 0} (e : Entry) (r : Result ℕ BookError) (d : BookError) → IsErrAnd r (λ x. x ≡ d) → BeginsEntry {T = T} old e.act (Err d) → Schedules tells faults moment since may old l e r old l
@@ -124,25 +128,19 @@ module _ {S : Type 0} (tells : Bool) (faults moment : S → ℕ) (since : S → 
     ok = tt;
     number = tt;
     ready = tt;
-    in_progress = λ n. (λ q. (b.in_progress n).0 (begins (InProgress n) q), λ q. answers (InProgress n) ((b.in_progress n).1 q));
-    no_backend = (λ q. b.no_backend.0 (begins NoBackend q), λ q. answers NoBackend (b.no_backend.1 q));
-    full = λ n. (λ q. (b.full n).0 (begins (HistoryFull n) q), λ q. answers (HistoryFull n) ((b.full n).1 q));
-    faulted = λ q. absurd (b.unfaulted (begins LogFault q));
-    log_fault = λ q. absurd (b.unfaulted (begins LogFault q));
+    in_progress = λ n. (λ q. (b.in_progress n).0 (as_other d (InProgress n) q), λ q. as_other d (InProgress n) ((b.in_progress n).1 q));
+    no_backend = (λ q. b.no_backend.0 (as_other d NoBackend q), λ q. as_other d NoBackend (b.no_backend.1 q));
+    full = λ n. (λ q. (b.full n).0 (as_other d (HistoryFull n) q), λ q. as_other d (HistoryFull n) ((b.full n).1 q));
+    faulted = λ q. absurd (b.unfaulted (as_other d LogFault q));
+    log_fault = λ q. absurd (b.unfaulted (as_other d LogFault q));
     same = λ no. refl;
     checked = λ no_fault no_want. refl;
-    cause = record { counted = λ q. absurd (b.unfaulted (begins LogFault q)); uncounted = λ no. refl };
+    cause = record { counted = λ q. absurd (b.unfaulted (as_other d LogFault q)); uncounted = λ no. refl };
     memory = λ t q up. up;
     any_moment = λ t. now t (entry_item (length (log old.history) + 1) e);
     refused = λ t up. inr (up, refl);
     safe = λ t. tt;
   })
-    where
-      begins : (y : BookError) → Err {A = ℕ} d ≡ Err y → Err {A = T} d ≡ Err y
-      begins y q = let same : d ≡ y = cc q in ap (λ (z : BookError). Err {A = T} z) same
-
-      answers : (y : BookError) → Err {A = T} d ≡ Err y → Err {A = ℕ} d ≡ Err y
-      answers y q = let same : d ≡ y = cc q in ap (λ (z : BookError). Err {A = ℕ} z) same
 
   pub unmarked : {T : Type 0} (name : List ℕ) (b : Option ℕ) (r : Result ℕ BookError) (d : BookError) → IsErrAnd r (λ x. x ≡ d) → BeginsMarker {T = T} old (Err d) → MarksCheckpoint tells faults moment since may old l name b r old l
   unmarked name b (Ok n) d is k = absurd is
@@ -150,7 +148,7 @@ module _ {S : Type 0} (tells : Bool) (faults moment : S → ℕ) (since : S → 
     ok = tt;
     number = tt;
     space = tt;
-    full = λ n. (λ q. (k.full n).0 (let same : d ≡ HistoryFull n = cc q in ap (λ (z : BookError). Err {A = T} z) same), λ q. let same : d ≡ HistoryFull n = cc ((k.full n).1 q) in ap (λ (z : BookError). Err {A = ℕ} z) same);
+    full = λ n. (λ q. (k.full n).0 (as_other d (HistoryFull n) q), λ q. as_other d (HistoryFull n) ((k.full n).1 q));
     want = inl k.want;
     faulted = λ q. let same : d ≡ LogFault = cc q in absurd (subst IsWant same k.want);
     log_fault = λ q. let same : d ≡ LogFault = cc q in absurd (subst IsWant same k.want);
@@ -167,7 +165,7 @@ module _ {S : Type 0} (tells : Bool) (faults moment : S → ℕ) (since : S → 
 
 module _ {S : Type 0} (tells : Bool) (faults moment : S → ℕ) (since : S → ℕ → List ℕ → Type 0) (may : S → List ℕ → Type 0) (old : BookState) (before after : LogState S) (logged : tells ≡ true → items_of old.history ≡ before.items) where
   module _ (e : Entry) (can : CanSchedule old e.act) where
-    item : LogItem
+    abbrev item : LogItem
     item = entry_item (length (log old.history) + 1) e
 
     by_answer : (appended : Result Unit LogError) → (tells ≡ true → Adds before.items item after.items appended) → CountsFault (IsErrOf appended log_errors.Failed) (faults before.store) (faults after.store)
@@ -235,11 +233,11 @@ module _ {S : Type 0} (tells : Bool) (faults moment : S → ℕ) (since : S → 
         (by_answer appended (λ t. subst (λ (x : LogItem). Adds before.items x after.items appended) is (adds t)) cause memory (λ t. subst (λ (x : LogItem). LeavesOnly moment since before.store after.store (IsBeforeOrAfter before x)) is (any_moment t)) (λ t. subst (λ (x : LogItem). Refuses before x after appended) is (refused t)) safe)
 
   module _ (name : List ℕ) (b : Option ℕ) (space : 0 < events_left old.history) where
-    marked : LogItem
-    marked = marker_item (length (log old.history)) name b
+    abbrev marker : LogItem
+    marker = marker_item (length (log old.history)) name b
 
-    marked_by : (appended : Result Unit LogError) → (tells ≡ true → Adds before.items marked after.items appended) → CountsFault (IsErrOf appended log_errors.Failed) (faults before.store) (faults after.store)
-        → (tells ≡ true → IsErrOf appended log_errors.NoMemory → after.torn ≡ true → before.torn ≡ true) → (tells ≡ true → LeavesOnly moment since before.store after.store (IsBeforeOrAfter before marked)) → (tells ≡ true → Refuses before marked after appended)
+    marked_by : (appended : Result Unit LogError) → (tells ≡ true → Adds before.items marker after.items appended) → CountsFault (IsErrOf appended log_errors.Failed) (faults before.store) (faults after.store)
+        → (tells ≡ true → IsErrOf appended log_errors.NoMemory → after.torn ≡ true → before.torn ≡ true) → (tells ≡ true → LeavesOnly moment since before.store after.store (IsBeforeOrAfter before marker)) → (tells ≡ true → Refuses before marker after appended)
         → (tells ≡ true → OnOk appended (LeavesItems (may after.store) after.items))
         → MarksCheckpoint tells faults moment since may old before name b (finished_as appended (length (log old.history))) (marker_finished old name b appended) after
     marked_by (Ok u) adds cause memory any_moment refused safe = record {
@@ -256,7 +254,7 @@ module _ {S : Type 0} (tells : Bool) (faults moment : S → ℕ) (since : S → 
       memory = λ t is. absurd (cc is);
       any_moment = any_moment;
       refused = refused;
-      safe = λ t. subst (LeavesItems (may after.store)) (sym (items_marker old.history name b ∙ (ap (λ (x : List LogItem). x ++ marked ∷ []) (logged t) ∙ sym (adds t)))) (safe t);
+      safe = λ t. subst (LeavesItems (may after.store)) (sym (items_marker old.history name b ∙ (ap (λ (x : List LogItem). x ++ marker ∷ []) (logged t) ∙ sym (adds t)))) (safe t);
     }
     marked_by (Err log_errors.Failed) adds cause memory any_moment refused safe = record {
       ok = tt;
@@ -291,7 +289,7 @@ module _ {S : Type 0} (tells : Bool) (faults moment : S → ℕ) (since : S → 
       safe = λ t. tt;
     }
 
-    pub marks : (given : LogItem) (appended : Result Unit LogError) (r : Result ℕ BookError) (new : BookState) → given ≡ marked → (tells ≡ true → Adds before.items given after.items appended) → CountsFault (IsErrOf appended log_errors.Failed) (faults before.store) (faults after.store)
+    pub marks : (given : LogItem) (appended : Result Unit LogError) (r : Result ℕ BookError) (new : BookState) → given ≡ marker → (tells ≡ true → Adds before.items given after.items appended) → CountsFault (IsErrOf appended log_errors.Failed) (faults before.store) (faults after.store)
         → (tells ≡ true → IsErrOf appended log_errors.NoMemory → after.torn ≡ true → before.torn ≡ true) → (tells ≡ true → LeavesOnly moment since before.store after.store (IsBeforeOrAfter before given)) → (tells ≡ true → Refuses before given after appended)
         → (tells ≡ true → OnOk appended (LeavesItems (may after.store) after.items)) → r ≡ finished_as appended (length (log old.history)) → new ≡ marker_finished old name b appended → MarksCheckpoint tells faults moment since may old before name b r new after
     marks given appended r new is adds cause memory any_moment refused safe answer state =

@@ -1,5 +1,5 @@
 -- What a call answers and leaves that may bring an event into a book.
-use Rattle.std.specs.Prelude.{◌≡◌, ◌⊎◌, ◌↔◌, ℕ, ◌+◌, ◌<◌, Bool, true, List, length, IfOk, IfErr, OnOk, OnErr, IsErrOf, Result, Ok, Err, Unit}
+use Rattle.std.specs.Prelude.{◌≡◌, ◌⊎◌, ◌↔◌, ℕ, ◌+◌, ◌<◌, Bool, true, List, length, IfOk, IfErr, OnOk, OnErr, IsErrOf, Result, Ok, Err}
 use Rattle.std.specs.declared.option.Option.{Option}
 use Rattle.cj_model.specs.declared.request.Act.{Act}
 use Rattle.cj_model.specs.declared.request.Entry.{Entry}

@@ -41,12 +41,12 @@ abbrev pub bare_book : Layout → List Event → List ℕ → ℕ → BookState
 bare_book layout h sessions greatest = record { layout = layout; history = h; sessions = sessions; greatest = greatest; balance = record { policy = RoundRobin; weights = []; standing = at_rest }; cache = empty_cache 0 }
 
 -- an entry that may come next, with places for it and for the transaction that it begins
-pub record IsPendingEntry (layout : Layout) (h : List Event) (sessions : List ℕ) (greatest places tx_places : ℕ) (e : Entry) (prepared : Prepared) : Type 0 where
+pub record IsPendingEntry (layout : Layout) (h : List Event) (sessions : List ℕ) (greatest places tx_places : ℕ) (e : Entry) (p : Prepared) : Type 0 where
   pub idle : is_free h ≡ true
   pub space : 3 ≤ events_left h
   pub fit : IsFitEntry (log h) e
   pub given : IsOfGiven (bare_book layout h sessions greatest) e
-  pub prepared : IsPrepared (placement_of layout) h e prepared
+  pub prepared : IsPrepared (placement_of layout) h e p
   pub place : 0 < places
   pub tx_place : HasPlace e.act tx_places
 
