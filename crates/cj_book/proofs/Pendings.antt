@@ -125,8 +125,8 @@ module _ (layout : Layout) (h : List Event) (ss : List BookSession) (greatest pl
     where
       fewer : (s : ℕ) (ns : List ℕ) → list_any (λ m. m == s) ns ≡ false → list_any (λ m. m == s) (filter (λ m. not (m == n)) ns) ≡ false
       fewer s [] none = refl
-      fewer s (m ∷ ns) none = from (m == n)
+      fewer s (m ∷ ns) none = from (m == n) (or_parts (m == s) (list_any (λ k. k == s) ns) none).0 (fewer s ns (or_parts (m == s) (list_any (λ k. k == s) ns) none).1)
         where
-          from : (b : Bool) → list_any (λ k. k == s) (cond (not b) (m ∷ filter (λ k. not (k == n)) ns) (filter (λ k. not (k == n)) ns)) ≡ false
-          from true = fewer s ns (or_parts (m == s) (list_any (λ k. k == s) ns) none).1
-          from false = ap (λ b. b || list_any (λ k. k == s) (filter (λ k. not (k == n)) ns)) (or_parts (m == s) (list_any (λ k. k == s) ns) none).0 ∙ fewer s ns (or_parts (m == s) (list_any (λ k. k == s) ns) none).1
+          from : (b : Bool) → (m == s) ≡ false → list_any (λ k. k == s) (filter (λ k. not (k == n)) ns) ≡ false → list_any (λ k. k == s) (cond (not b) (m ∷ filter (λ k. not (k == n)) ns) (filter (λ k. not (k == n)) ns)) ≡ false
+          from true other rest = rest
+          from false other rest = ap (λ b. b || list_any (λ k. k == s) (filter (λ k. not (k == n)) ns)) other ∙ rest

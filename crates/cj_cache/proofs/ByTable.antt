@@ -1,11 +1,14 @@
 -- Statements by their tables: each change leaves the kept ones listed.
-use Rattle.std.proofs.Common.{◌≡◌, ℕ, true, false, cond, List, [], ◌∷◌, take, map, sym, subst, ap, ◌∙◌, ⊎_elim}
+use Rattle.std.proofs.Common.{◌≡◌, ℕ, Bool, true, false, cond, List, [], ◌∷◌, filter, take, map, Option, sym, subst, ap, ◌∙◌, ⊎_elim}
 use Rattle.std.specs.Prelude.{All, ⊤, Some, is_some}
 use Rattle.std.specs.List.{list_any}
+use Rattle.std.specs.HashMap.{get}
+use Rattle.std.specs.HashSet.{HashSet}
 use Rattle.std.specs.Map.{remove_entry}
+use Rattle.std.specs.Option.{option_map_or}
 use Rattle.std.specs.Str.{bytes_eq}
 use Rattle.std.proofs.lemmas.Bool.{both_ways, cases_Bool, or_parts}
-use Rattle.std.proofs.lemmas.List.Elements.{All-cons, All-head, All-nil, All-tail, All-weaker}
+use Rattle.std.proofs.lemmas.List.Elements.{All-cons, All-filter, All-head, All-nil, All-tail, All-weaker}
 use Rattle.std.proofs.lemmas.Map.Views.{All-map-remove_entry}
 use Rattle.cj_cache.proofs.Common.{Cached, Held, Select, same_statement}
 use Rattle.cj_model.specs.Cluster.Caching.{brought_to_front, cached_entry, is_entry_for, without}
@@ -49,7 +52,7 @@ module _ {S T : Type 0} where
   popped_listed m s pairs = All-map-remove_entry (same_statement s) cached (IsListed m) pairs
 
   -- a table that none of them needs goes
-  pub unneeded_listed : (m n : ByTable S T) (table : List ℕ) (entries : List Cached) → ((t : List ℕ) (s : Select) → bytes_eq table t ≡ false → lists m t s ≡ true → lists n t s ≡ true) → All (λ e. list_any (bytes_eq table) e.select.tables ≡ false) entries → AreListed m entries → AreListed n entries
+  pub unneeded_listed : (m n : ByTable S T) (table : List ℕ) (entries : List Cached) → ((t : List ℕ) → bytes_eq table t ≡ false → get bytes_eq n t ≡ get bytes_eq m t) → All (λ e. list_any (bytes_eq table) e.select.tables ≡ false) entries → AreListed m entries → AreListed n entries
   unfolding AreListed
   unneeded_listed m n table [] still none all = All-nil (IsListed n)
   unneeded_listed m n table (e ∷ entries) still none all =
@@ -62,5 +65,10 @@ module _ {S T : Type 0} where
       tables (t ∷ ts) off on =
           let parts = or_parts (bytes_eq table t) (list_any (bytes_eq table) ts) off in
           All-cons (λ t. lists n t e.select ≡ true) t ts
-          (still t e.select parts.0 (All-head (λ t. lists m t e.select ≡ true) t ts on))
+          (ap (λ (o : Option (HashSet Select S)). list_any (same_statement e.select) (option_map_or (λ (set : HashSet Select S). set.keys) o [])) (still t parts.0) ∙ All-head (λ t. lists m t e.select ≡ true) t ts on)
           (tables ts parts.1 (All-tail (λ t. lists m t e.select ≡ true) t ts on))
+
+  -- some of them go
+  pub fewer_listed : (m : ByTable S T) (p : Cached → Bool) (entries : List Cached) → AreListed m entries → AreListed m (filter p entries)
+  unfolding AreListed
+  fewer_listed m p = All-filter p (IsListed m)

@@ -141,11 +141,11 @@ module _ (set : List (List ℕ)) where
   -- what is left needs none of them
   pub none_needs : (xs : List Cached) → All (λ e. needs_one_of set e.select ≡ false) (filter (λ e. not (needs e)) xs)
   none_needs [] = All-nil (λ e. needs_one_of set e.select ≡ false)
-  none_needs (x ∷ xs) = from (needs x) refl
+  none_needs (x ∷ xs) = from (needs x) refl (none_needs xs)
     where
-      from : (b : Bool) → needs x ≡ b → All (λ e. needs_one_of set e.select ≡ false) (cond (not b) (x ∷ filter (λ e. not (needs e)) xs) (filter (λ e. not (needs e)) xs))
-      from true is = none_needs xs
-      from false is = All-cons (λ e. needs_one_of set e.select ≡ false) x (filter (λ e. not (needs e)) xs) is (none_needs xs)
+      from : (b : Bool) → needs x ≡ b → All (λ e. needs_one_of set e.select ≡ false) (filter (λ e. not (needs e)) xs) → All (λ e. needs_one_of set e.select ≡ false) (cond (not b) (x ∷ filter (λ e. not (needs e)) xs) (filter (λ e. not (needs e)) xs))
+      from true is rest = rest
+      from false is rest = All-cons (λ e. needs_one_of set e.select ≡ false) x (filter (λ e. not (needs e)) xs) is rest
 
 -- who needs none of some tables doesn't need one of them
 pub one_unneeded : (set : List (List ℕ)) (k : ℕ) (d : List ℕ) → k < length set → (s : Select) → needs_one_of set s ≡ false → list_any (bytes_eq (get_or set k d)) s.tables ≡ false
