@@ -195,5 +195,6 @@ impl Book {
         ensures owned { OwnersAreOpen self.now }
         ensures pending { self.now.pending ≢ None → is_free self.now.state.history ≡ true }
     {
+        let _ = &self.seat;
     }
 }

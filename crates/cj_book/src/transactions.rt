@@ -88,10 +88,13 @@ impl OpenTransactions {
         ensures list { self.new.list ≡ self.old.list }
         ensures place { OnOk result (HasPlace act.now self.new.places) }
     {
-        if matches!(act, Act::Begin) {
-            self.open.reserve(1)?;
+        match act {
+            Act::Begin => {
+                self.open.reserve(1)?;
+                Ok(())
+            }
+            Act::Write(_) | Act::Create(_) | Act::Drop(_) | Act::Commit | Act::Abort => Ok(()),
         }
-        Ok(())
     }
 
     fn begin(&mut self, number: u64, session: u64)

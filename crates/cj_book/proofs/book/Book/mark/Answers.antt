@@ -1,5 +1,6 @@
-use Rattle.std.proofs.Common.{◌≡◌, ℕ, ◌+◌, ap, sym, subst}
+use Rattle.std.proofs.Common.{◌≡◌, ℕ, ◌+◌, ap, sym, ◌∙◌, subst}
 use Rattle.cj_book.proofs.Cited.{LogFailed, Marker, SeatView, came_gives, event_or_fault, mark_sessions, marker_followed, marks, marks_greatest, next_session, unmarked}
+use Rattle.cj_book.specs.Seated.{view_after}
 use Rattle.cj_book.proofs.book.Book.mark.Goals as goal
 
 pub returns-in_err-item-clause-state : goal.returns-in_err-item-clause-state
@@ -31,5 +32,6 @@ returns-clause-still_gives g c = λ gives.
     let i = returns-clause-state g c in
     let same = marks_greatest old.state c.args.name.now c.args.b c.finish_marker.result c.finish_marker.new.self.state i.ok i.log_fault i.same in
     let o = event_or_fault (Marker c.args.name.now c.args.b) (LogFailed 0 0) c.finish_marker.result in
+    let seat = c.finish_marker.ensures.seat ∙ ap (view_after o) c.in_ok-item.ensures.seat.1 in
     let next = came_gives old.state.greatest old.view o (mark_sessions old.state.greatest c.args.name.now c.args.b c.finish_marker.result) gives in
-    subst (λ (x : ℕ × SeatView). x.0 + 1 ≡ next_session x.1) (λ k. (sym same k, sym (returns-clause-seat g c) k)) next
+    subst (λ (x : ℕ × SeatView). x.0 + 1 ≡ next_session x.1) (λ k. (sym same k, sym seat k)) next
