@@ -14,13 +14,13 @@ ghost use Rattle.cj_book.specs.Books.{with_session, without_session, HasGivenAll
 ghost use Rattle.cj_book.specs.Events.{Schedules};
 ghost use Rattle.cj_book.specs.Seated.{count_after, event_or_fault, own_book_after, own_opened, own_pass_after, told_book, told_pass, GivesOwnPassesOnly};
 
-use cj_board::{Board, Pass};
-use cj_model::{Entry, SESSION_NUMBER_LIMIT};
-use cj_outside::Store;
 use crate::book::Book;
 use crate::book_log::BookLog;
 use crate::counter::Counter;
 use crate::error::{BookError, OwnError};
+use cj_board::{Board, Pass};
+use cj_model::{Entry, SESSION_NUMBER_LIMIT};
+use cj_outside::Store;
 
 impl Book {
     /// Opens a session of the next number with its own pass, which has seen the history and has counted nothing.

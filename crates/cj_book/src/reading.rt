@@ -23,9 +23,7 @@ use crate::pending::Prepared;
 use crate::touching::touched_behind;
 use cj_cluster::BoxedEntry;
 use cj_log::LogMarker;
-use cj_model::{
-    Act, Answer, BACKEND_LIMIT, EVENT_LIMIT, Entry, Name, NoMemory, Select, has_bit,
-};
+use cj_model::{Act, Answer, BACKEND_LIMIT, EVENT_LIMIT, Entry, Name, NoMemory, Select, has_bit};
 use cj_place::Placement;
 use cj_usage::written;
 

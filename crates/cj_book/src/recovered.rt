@@ -20,8 +20,8 @@ use cj_board::{Board, BookSeat};
 use cj_cluster::{BoxedEntry, Event};
 use cj_log::{LogItem, LogMarker};
 use cj_model::NoMemory;
-use cj_recovery::{OpeningError, opening};
 use cj_place::Placement;
+use cj_recovery::{OpeningError, opening};
 use std::alloc::Global;
 
 /// What is kept of the events so far.

@@ -39,12 +39,7 @@ fn add_written(tables: &mut TableSet, entry: Option<&Entry>, tx: u64) -> Result<
 }
 
 /// The tables that a transaction writes in the entries up to `end`. They stand behind its BEGIN, whose number it has.
-fn written_in(
-    book: &Book,
-    alloc: Global,
-    end: u64,
-    tx: u64,
-) -> Result<TableSet, NoMemory>
+fn written_in(book: &Book, alloc: Global, end: u64, tx: u64) -> Result<TableSet, NoMemory>
     requires { end ≤ length (log book.now.state.history) }
     ensures { IfOk result (λ set. (table : List ℕ) → has_table set table ≡ has_written table tx (take end (log book.now.state.history))) }
 {
@@ -78,12 +73,7 @@ pub fn touched_behind(
 }
 
 /// Whether entry `n + 1` of the log touches a table that the query needs.
-fn touches_query(
-    book: &Book,
-    alloc: Global,
-    n: u64,
-    select: &Select,
-) -> Result<bool, NoMemory>
+fn touches_query(book: &Book, alloc: Global, n: u64, select: &Select) -> Result<bool, NoMemory>
     requires { n < length (log book.now.state.history) }
     ensures { IfOk result (λ touches. touches ≡ freshness.touches_query (log book.now.state.history) n select.now) }
 {

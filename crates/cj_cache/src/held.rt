@@ -115,12 +115,7 @@ fn needs_one_of(select: &Select, set: &TableSet) -> bool
 }
 
 /// Drops the entries of the statements listed under a table that need one of the tables.
-fn pop_listed(
-    held: &mut LruCache<Select, Held>,
-    by_table: &ByTable,
-    set: &TableSet,
-    table: &Name,
-)
+fn pop_listed(held: &mut LruCache<Select, Held>, by_table: &ByTable, set: &TableSet, table: &Name)
     ensures entries { entries_of_map held.new ≡ without_each (filter (caching.needs_one_of set.now) (listed by_table.now table.now)) (entries_of_map held.old) }
     ensures capacity { held.new.cap ≡ held.old.cap }
 {

@@ -696,7 +696,10 @@ impl<B: Backend, S: Store> State<B, S> {
         ensures checked { OnErr result (¬ IsErrOf result BookError.LogFault → ¬ IsErrOf result BookError.NoMemory → self.new ≡ self.old) }
         ensures cause { CountsFault (IsErrOf result BookError.LogFault) self.old.recovery_log.faults self.new.recovery_log.faults }
     {
-        match self.book.schedule(&mut self.recovery_log, &self.board, entry) {
+        match self
+            .book
+            .schedule(&mut self.recovery_log, &self.board, entry)
+        {
             Ok(number) => {
                 self.sessions.count(s);
                 self.tally = Tally::new();
@@ -720,7 +723,10 @@ impl<B: Backend, S: Store> State<B, S> {
         ensures checked { OnErr result (¬ IsErrOf result BookError.LogFault → ¬ IsErrOf result BookError.NoMemory → self.new ≡ self.old) }
         ensures cause { CountsFault (IsErrOf result BookError.LogFault) self.old.recovery_log.faults self.new.recovery_log.faults }
     {
-        match self.book.schedule(&mut self.recovery_log, &self.board, entry) {
+        match self
+            .book
+            .schedule(&mut self.recovery_log, &self.board, entry)
+        {
             Ok(number) => {
                 self.tally = Tally::new();
                 Ok(number)
@@ -956,7 +962,8 @@ impl<B: Backend, S: Store> State<B, S> {
         ensures checked { OnErr result (¬ IsErrOf result BookError.LogFault → ¬ IsErrOf result BookError.NoMemory → self.new ≡ self.old) }
         ensures cause { CountsFault (IsErrOf result BookError.LogFault) self.old.recovery_log.faults self.new.recovery_log.faults }
     {
-        self.book.mark(&mut self.recovery_log, &self.board, name, None)
+        self.book
+            .mark(&mut self.recovery_log, &self.board, name, None)
     }
 
     // ---- dumps

@@ -13,14 +13,16 @@ invariant_of-self c =
     let v = book_view c.self.inside.seat in
     let n = c.args.session in
     let own = c.requires.own.0 in
-    rw (c.close_own.ensures.book, c.remove.ensures)
-    (record {
-      history = k.history;
-      follows = follows_closed _ _ _ _ _ _ k.follows n;
-      marked = k.marked;
-      within = k.within;
-      owned = subst (λ (m : ℕ). All (IsOpenSession (numbers_of (without session_number n c.self.inside.sessions))) (filter (λ s. not (s == m)) v.given)) (sym own) (open_taken c.self.inside.sessions v.given n (closed_out n v.given) k.owned);
-    }, pending_closed c.self.inside.placement (history c.self.inside.seat) c.self.inside.sessions c.self.inside.greatest _ _ _ n k.follows.sessions.known c.self.inside.pending c.self.invariant.1)
+    rw (c.close_own.ensures.book, c.remove.ensures) (
+      record {
+        history = k.history;
+        follows = follows_closed _ _ _ _ _ _ k.follows n;
+        marked = k.marked;
+        within = k.within;
+        owned = subst (λ (m : ℕ). All (IsOpenSession (numbers_of (without session_number n c.self.inside.sessions))) (filter (λ s. not (s == m)) v.given)) (sym own) (open_taken c.self.inside.sessions v.given n (closed_out n v.given) k.owned);
+      },
+      pending_closed c.self.inside.placement (history c.self.inside.seat) c.self.inside.sessions c.self.inside.greatest _ _ _ n k.follows.sessions.known c.self.inside.pending c.self.invariant.1,
+    )
 
 pub returns-clause-state : goal.returns-clause-state
 returns-clause-state c = rw (← c.self.view_is, c.close_own.ensures.book, c.remove.ensures, numbers_without session_number c.self.inside.sessions c.args.session) refl

@@ -13,11 +13,13 @@ pub invariant_of-self-2 : goal.invariant_of-self-2
 invariant_of-self-2 c =
     let k = c.self.invariant.0 in
     let gives = rw (← c.self.view_is) at c.requires.gives in
-    rw (c.learn.ensures.book, c.open_own-p.ensures.book)
-    (record {
-      history = k.history;
-      follows = rw c.in_ok-try_add.ensures.ok (follows_opened _ _ _ _ _ _ k.follows);
-      marked = k.marked;
-      within = search rules;
-      owned = rw c.in_ok-try_add.ensures.ok (open_own_more c.self.inside.sessions c.self.inside.greatest (book_view c.self.inside.seat) gives k.owned);
-    }, rw c.in_ok-try_add.ensures.ok (pending_opened c.self.inside.placement (history c.self.inside.seat) c.self.inside.sessions c.self.inside.greatest _ _ _ k.follows.sessions.known c.self.inside.pending c.self.invariant.1))
+    rw (c.learn.ensures.book, c.open_own-p.ensures.book) (
+      record {
+        history = k.history;
+        follows = rw c.in_ok-try_add.ensures.ok (follows_opened _ _ _ _ _ _ k.follows);
+        marked = k.marked;
+        within = search rules;
+        owned = rw c.in_ok-try_add.ensures.ok (open_own_more c.self.inside.sessions c.self.inside.greatest (book_view c.self.inside.seat) gives k.owned);
+      },
+      rw c.in_ok-try_add.ensures.ok (pending_opened c.self.inside.placement (history c.self.inside.seat) c.self.inside.sessions c.self.inside.greatest _ _ _ k.follows.sessions.known c.self.inside.pending c.self.invariant.1),
+    )
