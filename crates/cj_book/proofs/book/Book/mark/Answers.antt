@@ -1,30 +1,34 @@
-use Rattle.std.proofs.Common.{◌≡◌, ℕ, ◌+◌, ap, sym, ◌∙◌, subst}
-use Rattle.cj_book.proofs.Cited.{LogFailed, Marker, SeatView, came_gives, event_or_fault, mark_sessions, marker_followed, marks, marks_greatest, next_session, unmarked}
+use Rattle.std.proofs.Common.{◌≡◌, ℕ, ◌+◌, length, ap, sym, ◌∙◌, subst}
+use Rattle.cj_book.proofs.Cited.{BookState, LogFailed, LogFollows, Marker, SeatView, came_gives, event_or_fault, log, mark_sessions, marker_followed, marks, marks_greatest, next_session, unmarked}
+use Rattle.cj_book.specs.Events.{finished_as, marker_finished}
 use Rattle.cj_book.specs.Seated.{view_after}
 use Rattle.cj_book.proofs.book.Book.mark.Goals as goal
 
 pub returns-in_err-item-clause-state : goal.returns-in_err-item-clause-state
 returns-in_err-item-clause-state g c =
     let s = g.S.Store in
-    unmarked s.tells s.faults s.moment s.since s.may c.args.self.now.state c.args.recovery_log.now.log c.legal.ensures.now c.args.name.now c.args.b c.from_residual.result c.in_err-item.field-0.0 c.from_residual.ensures.1 c.in_err-item.ensures.begins
+    rw c.in_err-item.ensures.state
+    (unmarked s.tells s.faults s.moment s.since s.may c.args.self.now.state c.args.recovery_log.now.log c.legal.ensures.now c.args.name.now c.args.b c.from_residual.result c.in_err-item.field-0.0 c.from_residual.ensures.1 c.in_err-item.ensures.begins)
 
 pub returns-clause-state : goal.returns-clause-state
 returns-clause-state g c =
     let s = g.S.Store in
     let a = c.append-appended.ensures in
-    marks s.tells s.faults s.moment s.since s.may c.args.self.now.state c.args.recovery_log.now.log c.append-appended.new.self.log c.requires.follows.logged c.args.name.now c.args.b c.in_ok-item.ensures.begins.space
-    c.in_ok-item.item c.append-appended.result c.finish_marker.result c.finish_marker.new.self.state c.in_ok-item.ensures.item.0 a.items a.cause a.memory a.any_moment a.refused a.safe c.finish_marker.ensures.answer c.finish_marker.ensures.state
+    let same = c.in_ok-item.ensures.state in
+    let appended = c.append-appended.result in
+    marks s.tells s.faults s.moment s.since s.may c.args.self.now.state c.args.recovery_log.now.log c.append-appended.new.self.log c.requires.follows.logged c.args.name.now c.args.b c.in_ok-item.ensures.begins.space c.in_ok-item.item appended c.finish_marker.result c.finish_marker.new.self.state
+    c.in_ok-item.ensures.item.0 a.items a.cause a.memory a.any_moment a.refused a.safe (c.finish_marker.ensures.answer ∙ ap (λ (b : BookState). finished_as appended (length (log b.history))) same) (c.finish_marker.ensures.state ∙ ap (λ (b : BookState). marker_finished b c.args.name.now c.args.b appended) same)
 
 pub returns-clause-follows : goal.returns-clause-follows
 returns-clause-follows g c =
     let s = g.S.Store in
     let a = c.append-appended.ensures in
     let old = c.args.self.now.state in
-    rw c.finish_marker.ensures.state
-    (marker_followed s.tells s.faults c.append-appended.new.self old c.args.name.now c.args.b c.append-appended.result
-    (a.follows_marker old.history c.args.name.now c.args.b c.requires.follows c.in_ok-item.ensures.item.0)
-    (a.follows_fault old.history 0 0 c.requires.follows)
-    (a.follows_want old.history c.requires.follows))
+    let name = c.args.name.now in
+    let appended = c.append-appended.result in
+    let state = c.finish_marker.ensures.state ∙ ap (λ (b : BookState). marker_finished b name c.args.b appended) c.in_ok-item.ensures.state in
+    subst (λ (b : BookState). LogFollows s.tells s.faults c.append-appended.new.self b.history) (sym state)
+    (marker_followed s.tells s.faults c.append-appended.new.self old name c.args.b appended (a.follows_marker old.history name c.args.b c.requires.follows c.in_ok-item.ensures.item.0) (a.follows_fault old.history 0 0 c.requires.follows) (a.follows_want old.history c.requires.follows))
 
 pub returns-clause-still_gives : goal.returns-clause-still_gives
 returns-clause-still_gives g c = λ gives.
