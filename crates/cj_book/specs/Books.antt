@@ -60,7 +60,7 @@ pub record IsPrepared (p : Placement) (h : List Event) (e : Entry) (prepared : P
 
 -- ---- the recovery log
 
--- whether the last write to the log failed, one event later
+-- whether the last write to the log failed, after one more event
 abbrev pub log_failed_after : Bool → Event → Bool
 log_failed_after failed (Sched e) = false
 log_failed_after failed (Ended f s) = failed
@@ -70,23 +70,24 @@ log_failed_after failed (Disabled b) = failed
 log_failed_after failed (Enabled b) = failed
 log_failed_after failed (Marker name b) = false
 
--- the last write to the log that the history tells of failed
+-- whether the last write to the log failed, of those that the history tells of
 abbrev pub last_write_failed : List Event → Bool
 last_write_failed h = fold log_failed_after false h
 
--- A log's bytes keep the entries and markers of a history. Behind a write that failed they may keep one item more, the one that was refused.
+-- A log's bytes keep the entries and markers of a history.
+-- After a write that failed they may keep one item more, the one that was refused.
 pub record IsKeptIn (bytes : List ℕ) (h : List Event) : Type 0 where
   pub whole : last_write_failed h ≡ false → KeepsItems bytes (items_of h)
   pub at_least : KeepsItems bytes (items_of h) ⊎ (refused : LogItem) × KeepsItems bytes (items_of h ++ refused ∷ [])
 
 -- ---- markers
 
--- the marker that an item is, where it is one
+-- the marker of an item; none where the item is an entry
 abbrev pub marker_in : LogItem → Option LogMarker
 marker_in (items.Entry x) = None
 marker_in (items.Marker m) = Some m
 
--- the markers of a history in order, each with how many entries stand before it
+-- the markers of a history in order, each with the number of entries before it
 abbrev pub markers_of : List Event → List LogMarker
 markers_of h = filter_map marker_in (items_of h)
 
@@ -151,7 +152,7 @@ is_target b e k = is_target_at (placement_at b) b.history e k
 
 -- ---- reads
 
--- one more read is pending at b, as far as 32 bits count
+-- one more read is pending at backend b, up to the greatest number of 32 bits
 abbrev pub with_pending_read : List ℕ → ℕ → List ℕ
 with_pending_read pending b = if slice_index pending b + 1 == 2 ^ 32 then pending else one_more pending b
 
@@ -212,7 +213,7 @@ HasRoom b (Err (HistoryFull n)) = HasNoRoomForOne b n
 HasRoom b (Err LogFault) = ⊥
 HasRoom b (Err NoMemory) = ⊥
 
--- want of room in the history
+-- the error is that the history has no room
 abbrev pub IsFull : BookError → Type 0
 IsFull (InProgress n) = ⊥
 IsFull NoBackend = ⊥
@@ -220,7 +221,7 @@ IsFull (HistoryFull n) = Unit {0}
 IsFull LogFault = ⊥
 IsFull NoMemory = ⊥
 
--- or of memory
+-- the error is that the history has no room, or that memory ran out
 abbrev pub IsWant : BookError → Type 0
 IsWant (InProgress n) = ⊥
 IsWant NoBackend = ⊥

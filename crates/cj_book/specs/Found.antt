@@ -1,4 +1,4 @@
--- What is kept of the history that a log opens with, event by event, and how its refusals are told.
+-- What a book keeps of the history that its log opens with, and the book's errors for a log that can't be opened.
 use Rattle.std.specs.Prelude.{◌≡◌, List}
 use Rattle.cj_model.specs.Cluster.Placements.{Placement}
 use Rattle.cj_cluster.specs.declared.event.Event.{Event}
@@ -14,20 +14,20 @@ use Rattle.cj_book.specs.Books.{markers_of}
 use Rattle.cj_book.specs.Kept.{KeepsTransactions}
 use Rattle.cj_book.specs.Starts.{greatest_session}
 
--- the entries, the open transactions, the markers and the greatest session number
+-- what was found has the history's entries, open transactions, markers and greatest session number
 pub record IsRecovered (p : Placement) (h : List Event) (found : Recovered) : Type 0 where
   pub entries : found.entries.items ≡ log h
   pub transactions : KeepsTransactions p (log h) found.transactions.list
   pub marked : found.markers.items ≡ markers_of h
   pub greatest : found.greatest ≡ greatest_session (log h)
 
--- the refusal of the log's records, as the book tells it
+-- the book's error for a refusal of the log's records
 abbrev pub start_error_of : RecordsError → StartError
 start_error_of records.Failed = StoreFault
 start_error_of (records.BadRecord offset) = BadRecord offset
 start_error_of records.NoMemory = NoMemory
 
--- the refusal of the log's items
+-- the book's error for log items that open no history
 abbrev pub entry_error_of : OpeningError → StartError
 entry_error_of (openings.BadEntry n) = BadEntry n
 entry_error_of openings.NoMemory = NoMemory

@@ -16,7 +16,7 @@ use Rattle.cj_book.specs.declared.transactions.OpenTransaction.{OpenTransaction}
 use Rattle.cj_model.specs.declared.limits.TheConstants.{BACKEND_LIMIT, EVENT_LIMIT, SESSION_LIMIT, SESSION_NUMBER_LIMIT}
 use Rattle.cj_model.specs.Database.Tables.{Rises}
 
--- For so many backends: the entries of the history, how many of them ended, and the mask of the enabled backends.
+-- For this number of backends, a book keeps the history's entries, how many ended, and the mask of enabled backends.
 pub record KeepsEntries (backends : ℕ) (h : List Event) (kept : List Entry) (ended on : ℕ) : Type 0 where
   pub backend_count : (0 < backends) × (backends ≤ BACKEND_LIMIT)
   pub entries : kept ≡ log h
@@ -33,27 +33,27 @@ pub record IsKeptSession (entries : List Entry) (greatest : ℕ) (s : BookSessio
   pub number : (0 < s.number) × (s.number ≤ greatest)
   pub tx : s.tx ≡ tx_of entries s.number
 
--- no entry is of a session whose number was not given yet
+-- each open session is kept as the log has it, and no entry is of a session whose number was not given yet
 pub record KeepsSessions (entries : List Entry) (greatest : ℕ) (ss : List BookSession) : Type 0 where
   pub each : All (IsKeptSession entries greatest) ss
   pub known : All (λ (e : Entry). e.session ≤ greatest) entries
 
--- a transaction of the list is open in its session, with the mask of the backends at which it wrote
+-- a transaction of the list is open in its session, with the mask of the backends at which the transaction wrote
 pub record IsKeptTransaction (p : Placement) (entries : List Entry) (t : OpenTransaction) : Type 0 where
   pub number : 0 < t.number
   pub is_open : tx_of entries t.session ≡ t.number
   pub wrote : (b : ℕ) → in_mask t.wrote b ≡ wrote_at p b t.number entries
 
--- each transaction that is open is one of the list
+-- the list has exactly the open transactions
 pub record KeepsTransactions (p : Placement) (entries : List Entry) (ts : List OpenTransaction) : Type 0 where
   pub each : All (IsKeptTransaction p entries) ts
   pub complete : (s : ℕ) → tx_of entries s ≢ 0 → list_any (λ t. tx_number t == tx_of entries s) ts ≡ true
 
--- the mask of the targets of the open entry
+-- the mask has the targets of the open entry, and is 0 where no entry is open
 abbrev pub KeepsTargets : Placement → List Event → ℕ → Type 0
 KeepsTargets p h targets = (b : ℕ) → in_mask targets b ≡ is_target_at p h (open_entry_of h) b
 
--- what follows from the history
+-- sessions, transactions and targets are those that follow from the history
 pub record Follows (layout : Layout) (h : List Event) (greatest mask : ℕ) (ss : List BookSession) (ts : List OpenTransaction) : Type 0 where
   pub legal : IsLegal h
   pub sessions : KeepsSessions (log h) greatest ss

@@ -12,7 +12,7 @@ use Rattle.cj_book.specs.declared.transactions.OpenTransaction.{OpenTransaction}
 
 -- ---- items with a number
 
--- items by their numbers
+-- the order of items by their numbers
 abbrev pub by_number : {A : Type 0} → (A → ℕ) → A → A → Ordering
 by_number number x y = nat_cmp (number x) (number y)
 
@@ -20,17 +20,18 @@ by_number number x y = nat_cmp (number x) (number y)
 abbrev pub numbered : {A : Type 0} → (A → ℕ) → List A → ℕ → Option A
 numbered number xs n = find (λ x. number x == n) xs
 
--- the items but for those of a number
+-- the items without those of a number
 abbrev pub without : {A : Type 0} → (A → ℕ) → ℕ → List A → List A
 without number n xs = filter (λ x. not (number x == n)) xs
 
--- the item of this number stands at this place
+-- the item of this number is at this index
 pub record IsIndexOf {A : Type 0} (number : A → ℕ) (xs : List A) (n place : ℕ) : Type 0 where
   pub within : place < length xs
   pub found : numbered number xs n ≡ slice_get xs place
 
 -- ---- sessions
 
+-- the number of a session
 abbrev pub session_number : BookSession → ℕ
 session_number s = s.number
 
@@ -53,6 +54,7 @@ sessions_after ss n e act.Abort = with_tx e.session 0 ss
 
 -- ---- transactions
 
+-- the number of a transaction, which is that of its BEGIN entry
 abbrev pub tx_number : OpenTransaction → ℕ
 tx_number t = t.number
 

@@ -6,7 +6,7 @@ use Rattle.cj_model.specs.declared.codes.TheConstants.{HISTORY_FULL, LOG_FAULT, 
 use Rattle.cj_book.specs.declared.error.BookError.{BookError}
 use Rattle.cj_book.specs.declared.error.BookError.TheVariants.{HistoryFull, InProgress, LogFault, NoBackend, NoMemory}
 
--- none where memory was wanting, or another entry is in progress, whose end it waits for
+-- the refusal that a client reads; none where memory ran out, or where the request waits for the end of another entry
 abbrev pub refusal_of : BookError → Option Refusal
 refusal_of (InProgress n) = None
 refusal_of NoBackend = Some (refusal_of_code NO_BACKEND)

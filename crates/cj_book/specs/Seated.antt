@@ -28,18 +28,18 @@ HasSameSeat old new = (new.board ≡ old.board) × (new.view ≡ old.view) × (n
 abbrev pub IsCounted : SeatedBook → Event → Type 0
 IsCounted book e = HasCountNotes book.view.given book.state.history book.view.count_notes e
 
--- what the seat has to know before the event comes
+-- what the seat must know before the event comes
 pub record CanCome (v : SeatView) (e : Event) : Type 0 where
   pub positions : HasPositionNotes v.front v.position_notes e
   pub faults : HasFaultTokens v.fault_tokens e
   pub counts : HasCountNotes v.given v.front v.count_notes e
 
--- the event comes exactly where the answer is Ok
+-- the event that comes: `e` after Ok, none after an error
 abbrev pub event_at_ok : {T : Type 0} → Event → Result T BookError → Option Event
 event_at_ok e (Ok x) = Some e
 event_at_ok e (Err error) = None
 
--- and another one where the log's store failed
+-- the event that comes: `e` after Ok, `fault` after `LogFault`, none after another error
 abbrev pub event_or_fault : {T : Type 0} → Event → Event → Result T BookError → Option Event
 event_or_fault e fault (Ok x) = Some e
 event_or_fault e fault (Err (InProgress n)) = None
@@ -63,30 +63,34 @@ GivesOwnPassesOnly book = book.state.greatest + 1 ≡ next_session book.view
 abbrev pub OwnersAreOpen : SeatedBook → Type 0
 OwnersAreOpen book = All (IsOpenSession book.state.sessions) book.view.given
 
--- the book that gave the next session its own pass, and knows of its count
+-- what the book knows after it gave the next session an own pass, with a note of the pass's count
 abbrev pub own_opened : SeatView → SeatView
 own_opened v = after_learning (after_opening v) (pass_of (own_pass_of v))
 
--- the book and a pass where the book told the pass
+-- what the book knows after it told a pass
 abbrev pub told_book : SeatView → SeatView → SeatView
 told_book v w = after_learning v (pass_without_tokens w)
 
+-- what a pass knows after the book told the pass
 abbrev pub told_pass : SeatView → SeatView → SeatView
 told_pass v w = after_join w (pass_without_tokens (told_book v w))
 
--- the book that learned of an own pass that it counts one event more
+-- what the book knows after an own pass counted one event more and told the book
 abbrev pub knows_counted : SeatView → SeatView → SeatView
 knows_counted v w = after_learning v (pass_of (after_count w))
 
--- The book, and the own pass of a session that had been told, after an event of the session that came, where one did: the pass counts it, the book learns that before it comes, and tells the pass again.
+-- What the book knows after an event of a session with an own pass, where one came. The pass counts the event first.
+-- The book then learns of the count, the event comes, and the book tells the pass. The pass was told before.
 abbrev pub own_book_after : Option Event → SeatView → SeatView → SeatView
 own_book_after None v w = v
 own_book_after (Some e) v w = told_book (after_append e (knows_counted v w)) (after_split (after_count w))
 
+-- what a session's own pass knows after an event of the session, where one came
 abbrev pub own_pass_after : Option Event → SeatView → SeatView → SeatView
 own_pass_after None v w = w
 own_pass_after (Some e) v w = told_pass (after_append e (knows_counted v w)) (after_split (after_count w))
 
+-- the number of events that a pass has counted, after one more where one came
 abbrev pub count_after : Option Event → ℕ → ℕ
 count_after None n = n
 count_after (Some e) n = n + 1

@@ -1,4 +1,4 @@
--- What a book is that was just opened, and why the log's store holds none.
+-- What `open` gives: a book that was just opened, or an error and what the log's store has then.
 use Rattle.std.specs.Prelude.{◌≡◌, ◌⊎◌, ℕ, false, List, [], fold, length, max, nat_le, if◌then◌else◌, Result, Ok, Err}
 use Rattle.cj_model.specs.declared.request.Entry.{Entry}
 use Rattle.cj_model.specs.Cluster.Balancing.{Balance}
@@ -29,7 +29,7 @@ pub record IsStarted {S : Type 0} (placement : Layout) (balancer : Balance) (ans
   pub greatest : book.greatest ≡ greatest_session (log book.history)
   pub shut : l.torn ≡ false
 
--- the bytes keep the items of a log, of which one can't come next
+-- the bytes keep the items of a log, of which entry n, or a marker before it, can't come next
 abbrev pub KeepsBadEntry : List ℕ → ℕ → Type 0
 KeepsBadEntry bytes n = (items : List LogItem) × KeepsItems bytes items × HasBadEntry items n
 

@@ -11,6 +11,6 @@ use Rattle.cj_cluster.specs.History.Transactions.{is_write_of}
 abbrev pub has_table : List (List ℕ) → List ℕ → Bool
 has_table set table = list_any (λ name. bytes_eq name table) set
 
--- whether the entry, where there is one, writes the table in this transaction
+-- whether the entry writes the table in this transaction; false where there is no entry
 abbrev pub is_written_in : ℕ → List ℕ → Option Entry → Bool
 is_written_in tx table entry = option_map_or (λ (e : Entry). e.tx == tx && is_write_of table e.act) entry false

@@ -1,4 +1,4 @@
-//! A book at its seat of a board.
+//! The type `Book`: its fields, its view and invariant for contracts, and how it is opened.
 
 ghost use Rattle.std.specs.Prelude.{◌≡◌, ◌≢◌, ◌+◌, ◌-◌, ◌*◌, ◌≤◌, None, true, [], length, IfOk};
 ghost use Rattle.cj_model.specs.declared.limits.TheConstants.{EVENT_LIMIT, SESSION_NUMBER_LIMIT};
@@ -32,17 +32,16 @@ use std::alloc::Global;
 use std::marker::Model;
 use std::snapshot::Snapshot;
 
-/// What a book is made of.
+/// The parts that the caller gives to a new book.
 #[derive(Drop)]
 pub struct BookParts {
     pub placement: Placement,
     pub balancer: Balancer,
-    /// It has kept and counted nothing.
+    /// The cache, which has kept and counted nothing.
     pub cache: Cache,
 }
 
-/// The log of a cluster, and what follows from its history: which entry is open and for which backends, which backends are
-/// enabled, which sessions are open and their transactions.
+/// The log of a cluster, and what follows from its history.
 ///
 /// The history is what the book's seat at the board has seen, and no list of events is kept: each event comes to the board in the
 /// call that brings it. A mask has bit b for backend b. Entries are numbered from 1.
@@ -99,7 +98,7 @@ impl Model for Book {
         × KeepsPending book.placement (book_view book.seat).front (map session_number book.sessions) book.greatest (vec_capacity book.entries - length book.entries.items) (vec_capacity book.markers - length book.markers.items) book.transactions.places book.pending };
 }
 
-/// Why the log wasn't opened.
+/// Returns the book's error for a refusal of the log's records.
 fn start_error(error: RecordsError) -> StartError
     ensures { result ≡ start_error_of error }
 {
@@ -110,7 +109,7 @@ fn start_error(error: RecordsError) -> StartError
     }
 }
 
-/// Why its items are no history's.
+/// Returns the book's error for log items that open no history.
 fn entry_error(error: OpeningError) -> StartError
     ensures { result ≡ entry_error_of error }
 {

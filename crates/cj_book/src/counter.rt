@@ -12,7 +12,7 @@ use cj_board::{Board, BookSeat, Pass};
 use cj_cluster::Event;
 use std::mem;
 
-/// The own pass of a session, where it has one.
+/// The own pass of an entry's session; `Nobody` for a session without one.
 #[derive(Drop)]
 pub enum Counter {
     Nobody,
@@ -20,7 +20,7 @@ pub enum Counter {
 }
 
 impl Counter {
-    /// Takes an own pass. What is left of it has seen the same.
+    /// Moves an own pass into a counter. A pass that has seen the same history is left in its place.
     pub fn taken(board: &Board, p: &mut Pass) -> Counter
         requires board { pass_board p.old ≡ board_id board.now }
         requires own { 0 < (pass_view p.old).own_session }
@@ -32,7 +32,7 @@ impl Counter {
         Counter::Own(mem::replace(p, rest))
     }
 
-    /// Puts it back.
+    /// Moves the own pass of a counter into `p`. The pass that was in its place is dropped.
     pub fn put_back(self, p: &mut Pass)
         requires some { own_view self ≢ None }
         ensures own { own_view self ≡ Some (pass_view p.new) }
@@ -44,7 +44,8 @@ impl Counter {
     }
 }
 
-/// An event of a session comes to the board. The session's own pass counts it before, and has seen it then.
+/// Appends an event of a session to the board. The session's own pass, if any, first counts the event.
+/// The pass has seen the whole history at the end. The event must note no failure of a backend.
 pub fn announce(board: &Board, seat: &mut BookSeat, counter: &mut Counter, event: &Event)
     requires board { book_board seat.old ≡ board_id board.now }
     requires on { IsOn (board_id board.now) counter.old }

@@ -38,6 +38,7 @@ impl Book {
     }
 
     /// Disables a backend that is enabled, while no entry is open.
+    /// `HistoryFull`: no event more has room. An error leaves the book unchanged.
     pub fn disable(&mut self, board: &Board, b: u8) -> Result<(), BookError>
         requires board { self.old.board ≡ board_id board.now }
         requires pending { self.old.pending ≡ None }
@@ -56,7 +57,9 @@ impl Book {
         Ok(())
     }
 
-    /// Enables a backend that isn't enabled, while no entry is open. It is noted to stand at the end of the log.
+    /// Enables a backend that is disabled, while no entry is open.
+    /// The seat must have a note that the backend is at the end of the log.
+    /// `HistoryFull`: no event more has room. An error leaves the book unchanged.
     pub fn enable(&mut self, board: &Board, b: u8) -> Result<(), BookError>
         requires board { self.old.board ≡ board_id board.now }
         requires pending { self.old.pending ≡ None }
@@ -76,7 +79,9 @@ impl Book {
         Ok(())
     }
 
-    /// A backend failed in a session's read, also while an entry is open; the book knows of a fault of it that no event has told of.
+    /// Records that a backend failed in a session's read, also while an entry is open.
+    /// The event spends one fault token of that backend, which the seat must have. The backend stays enabled.
+    /// `HistoryFull`: no event more has room. An error leaves the book unchanged, with the token.
     pub fn read_failed(
         &mut self,
         board: &Board,

@@ -4,7 +4,7 @@ use cj_model::{HISTORY_FULL, LOG_FAULT, NO_BACKEND, NoMemory, Refusal};
 use std::alloc::{AllocError, AllocFailed};
 use thiserror::Error;
 
-/// Why an event didn't come into the history, which is then as it was.
+/// Why an event was refused. The history is unchanged, except after `LogFault`.
 #[derive(Clone, Copy, Debug, PartialEq, Eq, Error)]
 pub enum BookError {
     /// The entry of this number is open.
@@ -13,10 +13,10 @@ pub enum BookError {
     /// The entry needs a backend, and none that serves it is enabled.
     #[error("no enabled backend serves the entry")]
     NoBackend,
-    /// The history has so many events, and no room for more.
+    /// The history has this many events, and no room for the event that was asked for.
     #[error("the history of {0} events is full")]
     HistoryFull(u64),
-    /// The log's store failed, and has counted it. The history has an event of it.
+    /// The log's store failed and counted a fault. The history has a new event that tells of the failure.
     #[error("the store of the recovery log failed")]
     LogFault,
     #[error("out of memory")]
@@ -27,8 +27,8 @@ impl BookError {
     ghost use Rattle.std.specs.Prelude.{◌≡◌};
     ghost use Rattle.cj_book.specs.Refusals.{refusal_of};
 
-    /// What a request is told of which no entry was scheduled; nothing where memory was wanting, or
-    /// another entry is in progress, whose end it waits for.
+    /// Returns the refusal that a client reads for an entry that was not scheduled.
+    /// None after `InProgress`, where the request waits for the open entry, and after `NoMemory`.
     pub fn refusal(self) -> Option<Refusal>
         ensures { result ≡ refusal_of self }
     {
@@ -81,20 +81,20 @@ impl From<NoMemory> for BookError {
 /// Why no book was opened.
 #[derive(Clone, Copy, Debug, PartialEq, Eq, Error)]
 pub enum StartError {
-    /// The log's store failed, and has counted it.
+    /// The log's store failed and counted a fault.
     #[error("the store of the recovery log failed")]
     StoreFault,
-    /// The record at this offset of the log is bad, or its magic.
+    /// The record at this byte offset of the log is bad, or the log's magic is.
     #[error("bad record: {0}")]
     BadRecord(u64),
-    /// The item that should have been entry `n`, or a marker before it, is none.
+    /// Entry `n` of the log, or a marker before it, can't follow the items before it.
     #[error("bad entry: {0}")]
     BadEntry(u64),
     #[error("out of memory")]
     NoMemory,
 }
 
-/// No session more can be opened: so many are open, or the last number was given.
+/// No session more can be opened: `sessions` are open, or the last session number was given.
 #[derive(Clone, Copy, Debug, PartialEq, Eq, Error)]
 #[error("no session more can be opened")]
 pub struct SessionsFull {
@@ -104,7 +104,7 @@ pub struct SessionsFull {
 /// Why no session was opened with an own pass.
 #[derive(Clone, Copy, Debug, PartialEq, Eq, Error)]
 pub enum OwnError {
-    /// The greatest number that a session may have is this one, and was given.
+    /// All session numbers were given. This is the greatest one.
     #[error("no session more can be opened")]
     SessionsFull(u64),
     #[error("out of memory")]

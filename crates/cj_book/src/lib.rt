@@ -1,9 +1,15 @@
-//! The log of a cluster and what follows from its history: which entry is open and for which backends, which backends are enabled,
-//! which sessions are open and their transactions; with the placement of tables and the balancer of reads.
+//! The scheduler's state: the recovery log, and what follows from its history of events.
 //!
-//! A `Book` takes the events one by one, and refuses what can't be scheduled. Each comes to the board at which the book has its
-//! seat, and the history is what the seat has seen: no list of events is kept. An entry or a checkpoint stands in the recovery log
-//! before it comes into the history, and `open` finds it there again.
+//! A `Book` knows the open entry and its targets, enabled backends, sessions, transactions and markers.
+//! It also holds the placement of tables, the balancer of reads and the cache of answers.
+//! Each event goes to the board in the call that brings it. No second list of events is kept.
+//! Contracts promise that the log's items are the history's entries and markers, also after a crash.
+//! They name each refusal and what it leaves (`specs/Books`, `specs/Events`, `specs/Seated`).
+//! `legal` shows what holds of every book. The invariant is `IsKeptBook` in `specs/Kept`.
+//! A new event concerns `Books`, `Events` and a file like `end.rt`. A new reason to refuse concerns `error.rt`.
+//! In `enter` (`schedule.rt`, `marker.rt`) no call may fail after the append to the log.
+//! Proofs begin in `proofs/Following` and `proofs/Keeping` (a book with one more event).
+//! `proofs/Recovering` and `proofs/Starting` treat opening, `proofs/Owned` and `proofs/Owners` own passes.
 #![tactic(auto)]
 
 mod book;

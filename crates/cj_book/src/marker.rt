@@ -21,7 +21,7 @@ use cj_model::Name;
 use cj_outside::Store;
 use std::mem;
 
-/// A marker behind so many entries.
+/// Returns a marker after the first `after` entries. It names the dump of backend `b`, where there is one.
 fn marker_of(after: u64, name: &Name, b: Option<u8>) -> LogMarker
     ensures { result ≡ record { after = after; name = name.now; b = b } }
 {

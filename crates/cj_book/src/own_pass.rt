@@ -1,4 +1,4 @@
-//! Passes at the book: what the two tell each other, and sessions with an own pass, which counts their events.
+//! Passes at the book: how notes are exchanged, and sessions whose own pass counts their events.
 
 ghost use Rattle.std.specs.Prelude.{ℕ, ◌≡◌, ◌↔◌, ◌+◌, ◌<◌, ◌≤◌, None, true, Contains, IfOk, OnErr, OnOk, IsErrOf};
 ghost use mathlib.Core.List.{IsPrefix};
@@ -92,7 +92,8 @@ impl Book {
         result
     }
 
-    /// Closes a session with an own pass, which the board takes back; a transaction that it has open is then an orphan.
+    /// Closes a session that has an own pass, and returns the pass to the board.
+    /// An open transaction of the session becomes an orphan.
     pub fn close_own(&mut self, board: &Board, session: u64, p: Pass)
         requires board { (self.old.board ≡ board_id board.now) × (pass_board p ≡ board_id board.now) }
         requires own { ((pass_view p).own_session ≡ session) × (0 < session) }
@@ -108,8 +109,8 @@ impl Book {
         board.close_own(&mut self.seat, p);
     }
 
-    /// The pass has seen the history, and each has the other's notes. The fault tokens stay. The session of an own pass is one that
-    /// the book gave.
+    /// Shows the pass the whole history. Book and pass then have each other's notes.
+    /// Fault tokens stay where they are. The session of an own pass is one that the book has given.
     pub fn tell(&mut self, board: &Board, p: &mut Pass)
         requires board { (self.old.board ≡ board_id board.now) × (pass_board p.old ≡ board_id board.now) }
         ensures board { (self.new.board ≡ self.old.board) × (pass_board p.new ≡ pass_board p.old) }
@@ -125,7 +126,8 @@ impl Book {
         board.tell(&mut self.seat, p);
     }
 
-    /// The book has the pass's notes, and takes its fault tokens.
+    /// Gives the book the pass's notes, and moves the pass's fault tokens to the book.
+    /// The pass sees nothing new.
     pub fn learn(&mut self, board: &Board, p: &mut Pass)
         requires board { (self.old.board ≡ board_id board.now) × (pass_board p.old ≡ board_id board.now) }
         ensures board { (self.new.board ≡ self.old.board) × (pass_board p.new ≡ pass_board p.old) }

@@ -1,4 +1,4 @@
-//! What is read of a book.
+//! Calls that read a book and change nothing.
 
 ghost use Rattle.std.specs.Prelude.{◌≡◌, ◌↔◌, ◌-◌, ◌^◌, ◌<◌, ◌&&◌, ℕ, true, [], ◌∷◌, ◌++◌, length, slice_get, option_copied, IsNone, IfSome, IfOk, IsTrue};
 ghost use Rattle.std.specs.List.{list_any};
@@ -25,6 +25,7 @@ use cj_cluster::BoxedEntry;
 use cj_log::LogMarker;
 use cj_model::{Act, Answer, BACKEND_LIMIT, EVENT_LIMIT, Entry, Name, NoMemory, Select, has_bit};
 use cj_place::Placement;
+use cj_recovery::entry_item;
 use cj_usage::written;
 
 fn needs_backend(act: &Act) -> bool
@@ -33,7 +34,7 @@ fn needs_backend(act: &Act) -> bool
     !matches!(act, Act::Abort)
 }
 
-/// Whether one of the markers has the name.
+/// Returns whether one of the markers has the name.
 fn is_named(markers: &[LogMarker], name: &Name) -> bool
     ensures { result ≡ list_any (λ marker. bytes_eq name.now marker.name) markers.now }
 {
@@ -48,35 +49,35 @@ impl Book {
         &self.placement
     }
 
-    /// How many events there are.
+    /// Returns the number of events in the history.
     pub fn events(&self) -> u64
         ensures { result ≡ length self.now.state.history }
     {
         self.seat.len()
     }
 
-    /// How many entries there are, which is the number of the last one.
+    /// Returns the number of entries in the log, which is also the number of the last one.
     pub fn length(&self) -> u64
         ensures { result ≡ length (log self.now.state.history) }
     {
         self.entries.len() as u64
     }
 
-    /// How many entries have ended.
+    /// Returns the number of entries that have ended.
     pub fn ended_count(&self) -> u64
         ensures { result ≡ histories.ended_count self.now.state.history }
     {
         self.done as u64
     }
 
-    /// Whether no entry is open.
+    /// Returns whether no entry is open.
     pub fn is_free(&self) -> bool
         ensures { result ≡ is_free self.now.state.history }
     {
         self.done == self.entries.len()
     }
 
-    /// The number of the open entry.
+    /// Returns the number of the open entry, which is the last one. None if no entry is open.
     pub fn open_entry(&self) -> Option<u64>
         ensures none { IsNone result ↔ (is_free self.now.state.history ≡ true) }
         ensures number { IfSome result (λ n. n ≡ length (log self.now.state.history)) }
@@ -94,14 +95,14 @@ impl Book {
         Some(self.entries.get(index)?.entry())
     }
 
-    /// The open entry.
+    /// Returns the open entry. None if no entry is open.
     pub fn opened(&self) -> Option<&Entry>
         ensures { option_copied result ≡ histories.open_entry_of self.now.state.history }
     {
         self.entry_of(self.done)
     }
 
-    /// The entry of a number, where there is one.
+    /// Returns entry `n` of the log, counted from 1. None for 0, and for a number after the last.
     pub fn entry(&self, n: u64) -> Option<&Entry>
         ensures zero { n ≡ 0 → IsNone result }
         ensures numbered { 0 < n → option_copied result ≡ slice_get (log self.now.state.history) (n - 1) }
@@ -112,14 +113,14 @@ impl Book {
         self.entry_of((n - 1) as usize)
     }
 
-    /// Whether the backend is enabled; false of a number that no backend has.
+    /// Returns whether backend `b` is enabled. False for a number that no backend has.
     pub fn is_enabled(&self, b: u8) -> bool
         ensures { result ≡ histories.is_enabled self.now.state.history b }
     {
         b < self.placement.count() && has_bit(self.enabled, b)
     }
 
-    /// The mask of the enabled backends.
+    /// Returns the mask of the enabled backends.
     pub fn enabled(&self) -> u32
         ensures mask { (b : ℕ) → in_mask result b ≡ histories.is_enabled self.now.state.history b }
         ensures below { (b : ℕ) → in_mask result b ≡ true → b < length self.now.state.layout.names }
@@ -127,14 +128,14 @@ impl Book {
         self.enabled
     }
 
-    /// The mask of the backends that stay enabled where the open entry ends so.
+    /// Returns the mask of the backends that stay enabled if the open entry ends with these masks.
     pub fn left(&self, failed: u32, starved: u32) -> u32
         ensures { (b : ℕ) → in_mask result b ≡ histories.is_enabled (self.now.state.history ++ Event.Ended failed starved ∷ []) b }
     {
         self.enabled & !(failed | starved)
     }
 
-    /// How many events may still come, beside two that are kept for the end of an open entry.
+    /// Returns how many more events have room. Two further events are reserved for the end of an open entry.
     pub fn room(&self) -> u64
         ensures { result ≡ histories.events_left self.now.state.history }
     {
@@ -142,7 +143,8 @@ impl Book {
         EVENT_LIMIT - (self.events() + 2 * open)
     }
 
-    /// The mask of the enabled backends that host the table that an act is of, or of all enabled ones.
+    /// Returns the mask of the enabled backends that host the table that an act writes, creates or drops.
+    /// For an act without a table these are all enabled backends.
     fn servers(&self, act: &Act) -> u32
         ensures { (b : ℕ) → in_mask result b ≡ (histories.is_enabled self.now.state.history b && hosts_all (placement_at self.now.state) b (needs (request_of act.now))) }
     {
@@ -152,7 +154,7 @@ impl Book {
         }
     }
 
-    /// Whether the act needs a backend, and none that serves it is enabled.
+    /// Returns whether the act needs a backend, and no enabled backend serves it.
     fn is_unserved(&self, act: &Act) -> bool
         ensures unserved { IsTrue result → HasNoServer (placement_at self.now.state) self.now.state.history (request_of act.now) }
         ensures served { ¬ IsTrue result → HasServer (placement_at self.now.state) self.now.state.history (request_of act.now) }
@@ -160,7 +162,7 @@ impl Book {
         self.servers(act) == 0 && needs_backend(act)
     }
 
-    /// The mask of the backends that an entry concerns which may come next.
+    /// Returns the mask of the backends that an entry concerns. The entry must be one that may come next.
     fn concerned(&self, e: &Entry) -> u32
         requires { IsFitEntry (log self.now.state.history) e.now }
         ensures { (b : ℕ) → in_mask result b ≡ concerns (placement_at self.now.state) b (log self.now.state.history) e.now.tx e.now.act }
@@ -168,7 +170,7 @@ impl Book {
         self.transactions.concerned(&self.placement, e)
     }
 
-    /// The mask of the enabled backends that host each of the tables.
+    /// Returns the mask of the enabled backends that host all of the tables.
     pub fn candidates(&self, tables: &[Name]) -> u32
         ensures hosts { (b : ℕ) → in_mask result b ≡ is_candidate self.now.state tables.now b }
         ensures below { result < 2 ^ BACKEND_LIMIT }
@@ -180,7 +182,7 @@ impl Book {
         mask
     }
 
-    /// The mask of the backends that the open entry is for, which are enabled; 0 where no entry is open.
+    /// Returns the mask of the open entry's targets: the enabled backends that it concerns. 0 if no entry is open.
     pub fn targets(&self) -> u32
         ensures { (b : ℕ) → in_mask result b ≡ is_target self.now.state (histories.open_entry_of self.now.state.history) b }
     {
@@ -211,41 +213,43 @@ impl Book {
         Ok(())
     }
 
-    /// Whether a marker has the name.
+    /// Returns whether a marker of the history has the name.
     pub fn is_taken(&self, name: &Name) -> bool
         ensures { result ≡ histories.has_marker self.now.state.history name.now }
     {
         is_named(self.markers.as_slice(), name)
     }
 
-    /// The markers in order, each with how many entries stand before it, and the backend whose dump it names.
+    /// Returns the markers of the history in order.
+    /// Each has the number of entries before it, and the backend whose dump it names.
     pub fn markers(&self) -> &[LogMarker]
         ensures { result.now ≡ books.markers_of self.now.state.history }
     {
         self.markers.as_slice()
     }
 
-    /// How many sessions are open.
+    /// Returns the number of open sessions.
     pub fn session_count(&self) -> u64
         ensures { result ≡ length self.now.state.sessions }
     {
         self.sessions.len() as u64
     }
 
-    /// The greatest session number given.
+    /// Returns the greatest session number given, or 0.
     pub fn greatest(&self) -> u64
         ensures { result ≡ self.now.state.greatest }
     {
         self.greatest
     }
 
+    /// Returns whether the session is open.
     pub fn is_session_open(&self, session: u64) -> bool
         ensures { result ≡ has_session self.now.state session }
     {
         self.sessions.find(session).is_some()
     }
 
-    /// The open transaction of a session, or 0.
+    /// Returns the number of the transaction that an open session has open, or 0.
     pub fn open_tx(&self, session: u64) -> u64
         requires { has_session self.now.state session ≡ true }
         ensures { result ≡ tx_of (log self.now.state.history) session }
@@ -256,7 +260,7 @@ impl Book {
         }
     }
 
-    /// Whether the transaction is open and its session isn't.
+    /// Returns whether the transaction is an orphan: it is open, and its session is not.
     pub fn is_orphan(&self, tx: u64) -> bool
         ensures { result ≡ books.is_orphan self.now.state tx }
     {
@@ -266,21 +270,21 @@ impl Book {
         }
     }
 
-    /// The kept answer of the query.
+    /// Returns the answer that the cache keeps of the query. No hit or miss is counted.
     pub fn kept(&self, select: &Select) -> Option<&Answer>
         ensures { option_copied result ≡ answer_kept select.now self.now.state.cache }
     {
         self.cache.kept(select)
     }
 
-    /// Whether the cache keeps nothing at all.
+    /// Returns true only if the cache keeps no answer that it is given.
     pub fn keeps_none(&self) -> bool
         ensures { result ≡ true → (e : Cached) → after_keep e self.now.state.cache ≡ self.now.state.cache }
     {
         self.cache.keeps_none()
     }
 
-    /// Hits and misses.
+    /// Returns how many hits and how many misses the cache has counted.
     pub fn counts(&self) -> (u64, u64)
         ensures { result ≡ (self.now.state.cache.hits, self.now.state.cache.misses) }
     {

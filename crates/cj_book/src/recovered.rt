@@ -1,4 +1,4 @@
-//! What a book keeps of the history that a log opens with.
+//! Opening: which entries, transactions and markers a book keeps of the history that its log opens with.
 
 ghost use Rattle.std.specs.Prelude.{◌≡◌, ◌+◌, ◌<◌, ◌^◌, ℕ, List, [], ◌∷◌, ◌++◌, length, All, IfOk, OnOk, IsErrOf};
 ghost use Rattle.std.specs.List.{AllByRecursion};
@@ -24,7 +24,7 @@ use cj_place::Placement;
 use cj_recovery::{OpeningError, opening};
 use std::alloc::Global;
 
-/// What is kept of the events so far.
+/// What the book keeps of the events that were read so far.
 #[derive(Drop)]
 pub struct Recovered {
     pub entries: Vec<BoxedEntry>,
@@ -46,7 +46,7 @@ impl Recovered {
         }
     }
 
-    /// Adds the entry that is scheduled next.
+    /// Adds the next entry of the log. An error leaves the entry out, and may leave its transaction in.
     fn add_entry(&mut self, placement: &Placement, boxed: BoxedEntry) -> Result<(), NoMemory>
         requires { All (λ t. tx_number t < length self.old.entries.items + 1) self.old.transactions.list }
         ensures { (h : List Event) → IsLegal (h ++ Sched boxed ∷ []) → IsRecovered (placement_of placement.now) h self.old → OnOk result (IsRecovered (placement_of placement.now) (h ++ Sched boxed ∷ []) self.new) }
@@ -61,7 +61,8 @@ impl Recovered {
         Ok(())
     }
 
-    /// The next event comes to the board.
+    /// Appends the next event to the board, and keeps what the book needs of it.
+    /// An error leaves the event on the board.
     fn follow(
         &mut self,
         placement: &Placement,
@@ -90,7 +91,8 @@ impl Recovered {
     }
 }
 
-/// The events of a history that opens come to the board, and what is kept of them.
+/// Appends the events of an opening history to the board, and returns what the book keeps of them.
+/// An error leaves the board with some of the events.
 fn gather(
     alloc: Global,
     placement: &Placement,
@@ -114,7 +116,8 @@ fn gather(
     Ok(found)
 }
 
-/// The history that the items of a log open with comes to the board, and what is kept of it.
+/// Appends the history that the items of a log open with to the board, and returns what the book keeps of it.
+/// `BadEntry`: the items open no history. `NoMemory` leaves the board with some of the events.
 pub fn recover(
     alloc: Global,
     placement: &Placement,

@@ -1,4 +1,4 @@
-//! How an entry is scheduled: into the log, and then into the history.
+//! Scheduling: an entry is appended to the log, and then to the history.
 
 ghost use Rattle.std.specs.Prelude.{◌≡◌, None, Some, ◌+◌, ◌<◌, true, [], ◌∷◌, ◌++◌, length, vec_capacity, IfOk, OnOk, OnErr};
 ghost use Rattle.cj_cluster.specs.declared.event.Event.{Event};
@@ -28,7 +28,7 @@ use cj_recovery::entry_item;
 use std::mem;
 use std::snapshot::Snapshot;
 
-/// An entry comes to the board, and then behind the others, where there is room for it.
+/// Appends an entry to the board, and then to `entries`, which must have room for one more.
 fn put_entry(
     entries: &mut Vec<BoxedEntry>,
     board: &Board,

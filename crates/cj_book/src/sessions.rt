@@ -12,11 +12,12 @@ use std::marker::Model;
 #[derive(Clone, Copy)]
 pub struct BookSession {
     pub number: u64,
-    /// Its open transaction, or 0.
+    /// The number of the session's open transaction, or 0.
     pub tx: u64,
 }
 
-/// The open sessions in rising number, which contracts see as a list. There is room for as many as there can be.
+/// The open sessions in rising number, which contracts see as a list.
+/// The vector has room for `SESSION_LIMIT` sessions from the start.
 #[derive(Drop)]
 pub struct BookSessions {
     open: Vec<BookSession>,
@@ -36,7 +37,7 @@ impl Model for BookSessions {
 }
 
 impl BookSessions {
-    /// No sessions.
+    /// Returns an empty list with room for `SESSION_LIMIT` sessions. `NoMemory`: memory ran out.
     pub fn new(alloc: Global) -> Result<Self, NoMemory>
         ensures { IfOk result (λ made. made ≡ []) }
     {
@@ -45,6 +46,7 @@ impl BookSessions {
         })
     }
 
+    /// Returns the number of open sessions.
     pub fn len(&self) -> usize
         ensures { result ≡ length self.now }
     {
@@ -60,7 +62,7 @@ impl BookSessions {
         }
     }
 
-    /// The session of a number.
+    /// Returns the open session of a number. None if no open session has the number.
     pub fn find(&self, number: u64) -> Option<BookSession>
         ensures { result ≡ numbered session_number self.now number }
     {
@@ -70,7 +72,8 @@ impl BookSessions {
         }
     }
 
-    /// Opens a session of a number above all others. It takes no memory.
+    /// Adds a session whose number is above all others, while fewer than `SESSION_LIMIT` are open.
+    /// The call takes no memory.
     pub fn add(&mut self, number: u64)
         requires few { length self.old < SESSION_LIMIT }
         requires above { All (λ s. session_number s < number) self.old }
@@ -79,7 +82,8 @@ impl BookSessions {
         self.open.push_reserved(BookSession { number, tx: 0 });
     }
 
-    /// The same however many are open. It takes memory where they are many.
+    /// Adds a session whose number is above all others, however many are open.
+    /// `NoMemory`: the vector could not grow. An error leaves the list unchanged.
     pub fn try_add(&mut self, number: u64) -> Result<(), NoMemory>
         requires { All (λ s. session_number s < number) self.old }
         ensures ok { OnOk result (self.new ≡ self.old ++ book_session number ∷ []) }
@@ -89,7 +93,7 @@ impl BookSessions {
         Ok(())
     }
 
-    /// Closes the session of a number.
+    /// Removes the session of a number. Nothing changes if no open session has the number.
     pub fn remove(&mut self, number: u64)
         ensures { self.new ≡ without session_number number self.old }
     {
@@ -106,7 +110,7 @@ impl BookSessions {
         }
     }
 
-    /// Entry `number` of the log was scheduled.
+    /// Notes what entry `number` of the log does to its session: BEGIN opens a transaction, COMMIT and ABORT end it.
     pub fn follow(&mut self, number: u64, e: &Entry)
         ensures { self.new ≡ lists.sessions_after self.old number e.now e.now.act }
     {

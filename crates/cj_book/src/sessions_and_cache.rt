@@ -1,4 +1,4 @@
-//! What changes of a book beside its history: its sessions, the reads that the balancer counts, and the cache.
+//! Calls that change a book and bring no event: sessions, the reads that the balancer counts, and the cache.
 
 ghost use Rattle.std.specs.Prelude.{◌≡◌, ◌≢◌, ◌↔◌, ◌+◌, ◌^◌, ◌<◌, ◌≤◌, true, length, Contains, slice_index, IsNone, IfSome, IfOk, IfErr, OnOk, OnErr, IsErr, Ok};
 ghost use Rattle.cj_model.specs.Cluster.Balancing.{one_less};
@@ -15,7 +15,7 @@ use crate::touching::is_touched_behind;
 use cj_balance::Balancer;
 use cj_model::{Answer, BACKEND_LIMIT, NoMemory, SESSION_LIMIT, SESSION_NUMBER_LIMIT, Select};
 
-/// A read begins at the backend.
+/// Counts one more pending read at backend `b`, up to the greatest `u32`.
 fn begin_read(balancer: &mut Balancer, b: u8)
     requires { b < BACKEND_LIMIT }
     ensures one_more { balancer.new ≡ record balancer.old { standing = record balancer.old.standing { pending = books.with_pending_read balancer.old.standing.pending b } } }
@@ -47,7 +47,8 @@ impl Book {
         Ok(self.greatest)
     }
 
-    /// Closes a session that has no own pass; a transaction that it has open is then an orphan.
+    /// Closes a session that has no own pass. An open transaction of the session becomes an orphan.
+    /// Nothing changes if no open session has the number.
     pub fn close_session(&mut self, session: u64)
         requires unowned { ¬ Contains self.old.view.given session }
         ensures state { self.new.state ≡ without_session self.old.state session }
@@ -56,8 +57,10 @@ impl Book {
         self.sessions.remove(session);
     }
 
-    /// Picks the backend of the next read among the candidates, which are all below `BACKEND_LIMIT`; None exactly where there are none.
-    /// The read is pending there until it `ended`.
+    /// Picks the backend for the next read among the candidates, by the balancer's policy.
+    /// `candidates` is a mask of backends below `BACKEND_LIMIT`.
+    /// None if and only if the mask is 0, and then nothing changes.
+    /// The read is pending at the backend until `ended` is called.
     pub fn pick(&mut self, candidates: u32) -> Option<u8>
         requires { candidates < 2 ^ BACKEND_LIMIT }
         ensures none { IsNone result ↔ (candidates ≡ 0) }
@@ -71,7 +74,7 @@ impl Book {
         Some(b)
     }
 
-    /// A read ended at the backend. Where none is pending there, nothing changes.
+    /// Notes that a read ended at backend `b`. Nothing changes if no read is pending there.
     pub fn ended(&mut self, b: u8)
         requires below { b < BACKEND_LIMIT }
         ensures state { self.new.state ≡ record self.old.state { balance = record self.old.state.balance { standing = record self.old.state.balance.standing { pending = one_less self.old.state.balance.standing.pending b } } } }
@@ -82,7 +85,8 @@ impl Book {
         }
     }
 
-    /// Whether the answer of the query is kept, which is then in front. This counts a hit or a miss.
+    /// Returns whether the cache keeps an answer of the query, and counts a hit or a miss.
+    /// An answer that is found becomes the most recently used one.
     pub fn look(&mut self, select: &Select) -> bool
         ensures found { result ≡ has_answer select.now self.old.state.cache }
         ensures looked { self.new.state ≡ record self.old.state { cache = after_look select.now self.old.state.cache } }
@@ -91,8 +95,9 @@ impl Book {
         self.cache.touch(select)
     }
 
-    /// Keeps an answer that was given at a position of the log; whether it does. It doesn't exactly where an entry behind that
-    /// position touches a table that the query needs.
+    /// Gives the cache an answer that reflects the first `at` entries of the log, and returns whether it did.
+    /// False if and only if an entry after that position touches a table that the query needs.
+    /// `NoMemory`: memory ran out. False and an error leave the book unchanged.
     pub fn keep(&mut self, select: Select, answer: Answer, at: u64) -> Result<bool, NoMemory>
         requires { at ≤ length (log self.old.state.history) }
         ensures untouched { IfOk result (λ kept. (kept ≡ true) ↔ NoneTouches (log self.old.state.history) at (length (log self.old.state.history)) select) }

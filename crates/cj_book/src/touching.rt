@@ -1,4 +1,4 @@
-//! Which tables an entry touches, so that the answers of queries which need them are kept no longer.
+//! Invalidation: which tables an entry touches. The cache drops the answers whose queries need one of them.
 
 ghost use Rattle.std.specs.Prelude.{List, ℕ, ◌≡◌, ◌↔◌, ◌≤◌, ◌<◌, ◌||◌, false, length, option_copied, take, IfOk, OnOk, Some};
 ghost use Rattle.std.specs.Option.{option_map_or};
@@ -14,7 +14,7 @@ use cj_model::{Act, Entry, Name, NoMemory, Select, TableSet};
 use cj_usage::{lone, written};
 use std::alloc::Global;
 
-/// The table that the entry writes in this transaction, where it does.
+/// Returns the table that the entry writes in transaction `tx`. None if the entry writes none in it.
 fn written_by(entry: &Entry, tx: u64) -> Option<&Name>
     ensures { (table : List ℕ) → option_map_or (λ name. bytes_eq name table) (option_copied result) false ≡ is_written_in tx table (Some entry.now) }
 {
@@ -24,7 +24,7 @@ fn written_by(entry: &Entry, tx: u64) -> Option<&Name>
     }
 }
 
-/// Adds the table that the entry, where there is one, writes in this transaction.
+/// Adds the table that the entry writes in transaction `tx` to the set. Nothing is added if there is none.
 fn add_written(tables: &mut TableSet, entry: Option<&Entry>, tx: u64) -> Result<(), NoMemory>
     ensures { OnOk result ((table : List ℕ) → has_table tables.new table ≡ (is_written_in tx table (option_copied entry.entry) || has_table tables.old table)) }
 {

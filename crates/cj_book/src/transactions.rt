@@ -1,4 +1,4 @@
-//! The open transactions.
+//! The list of open transactions, and which backends each of them wrote at.
 
 ghost use Rattle.std.specs.Prelude.{◌≡◌, ◌<◌, ℕ, List, [], ◌∷◌, ◌++◌, All, MatchOption, None, OnOk};
 ghost use Rattle.cj_model.specs.declared.request.Entry.{Entry};
@@ -16,13 +16,13 @@ use cj_usage::written;
 use std::alloc::Global;
 use std::marker::Model;
 
-/// An open transaction, also one whose session isn't open any more.
+/// An open transaction. Its session may be closed.
 #[derive(Clone, Copy)]
 pub struct OpenTransaction {
-    /// The number of its BEGIN entry.
+    /// The number of the transaction's BEGIN entry.
     pub number: u64,
     pub session: u64,
-    /// The mask of the backends that host a table which it wrote.
+    /// The mask of the backends that host a table which the transaction wrote.
     pub wrote: u32,
 }
 
@@ -45,7 +45,7 @@ impl Model for OpenTransactions {
 }
 
 impl OpenTransactions {
-    /// No transactions, which take no memory.
+    /// Returns an empty list, which takes no memory.
     pub fn new(alloc: Global) -> Self
         ensures { result.list ≡ [] }
     {
@@ -63,7 +63,7 @@ impl OpenTransactions {
         }
     }
 
-    /// The transaction of a number.
+    /// Returns the open transaction of a number. None if no open transaction has the number.
     pub fn find(&self, number: u64) -> Option<OpenTransaction>
         ensures { result ≡ numbered tx_number self.now.list number }
     {
@@ -73,7 +73,7 @@ impl OpenTransactions {
         }
     }
 
-    /// The mask of the backends at which the transaction of a number wrote, or 0.
+    /// Returns the mask of the backends at which the open transaction of a number wrote. 0 if there is none.
     pub fn wrote(&self, number: u64) -> u32
         ensures { result ≡ wrote_of (numbered tx_number self.now.list number) }
     {
@@ -126,7 +126,8 @@ impl OpenTransactions {
         }
     }
 
-    /// The mask of the backends that an entry concerns which may come behind the entries of these transactions.
+    /// Returns the mask of the backends that an entry concerns.
+    /// The entry must be one that may follow the entries that opened these transactions.
     pub fn concerned(&self, placement: &Placement, e: &Entry) -> u32
         ensures { (entries : List Entry) → KeepsTransactions (placement_of placement.now) entries self.now.list → IsFitEntry entries e.now
             → (b : ℕ) → in_mask result b ≡ concerns (placement_of placement.now) b entries e.now.tx e.now.act }

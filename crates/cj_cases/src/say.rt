@@ -61,7 +61,7 @@ impl Case {
 
     fn configure(&mut self, alloc: Global, text: &[u8]) -> Result<bool, NoMemory>
         ensures { IfOk result
-            (Says (option_map (with_configuration_line self.old) (texts.spelled text.now)) self.old self.new) }
+            (SaysOfCase (option_map (with_configuration_line self.old) (texts.spelled text.now)) self.old self.new) }
     {
         let Some(bytes) = spelled(alloc, text)? else {
             return Ok(false);

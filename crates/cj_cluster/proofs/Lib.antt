@@ -16,7 +16,7 @@ pub mod PartRuns
 pub mod Pushed
 pub mod Sessions
 pub mod Soundness
-pub mod BalanceState
+pub mod Standing
 pub mod StepDrafts
 pub mod TransactionLaws
 pub mod TurnCases

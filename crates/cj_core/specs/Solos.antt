@@ -180,7 +180,8 @@ pub record HandsOutEntry (s : ℕ) (c : Call) (act : Act) (failed : List ℕ) (o
   pub logins : CallsExactly (accounts_of old) c.user (λ b. IsPartOf old.core (entry_of_call s c act) b × (is_masked (mask_with 0 failed) starved b ≡ false)) (λ b. is_masked (mask_with 0 failed) starved b ≡ true)
       (logins_of old.cells) (logins_of new.cells)
 
--- From one history to the other an entry ended, and in it the backends of this mask ran out of memory; or none ended, and the mask is 0.
+-- From one history to the other an entry ended, and in it the backends of this mask ran out of memory; or none ended,
+-- and the mask is 0.
 abbrev pub EndsStarving : ℕ → List Event → List Event → Type 0
 EndsStarving starved h g = ((failed : ℕ) × (masks_of_ends g ≡ masks_of_ends h ++ (failed, starved) ∷ [])) ⊎ ((starved ≡ 0) × (masks_of_ends g ≡ masks_of_ends h))
 

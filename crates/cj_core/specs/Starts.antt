@@ -86,8 +86,8 @@ StandsAfterStart faults w b =
     ⊎ ((is_enabled w.core.history b ≡ false) × (position_at w.core b ≡ None) × (slice_get (faults_of w.cells) b ≡ option_map next (slice_get faults b)))
 
 -- A start over a log that opens with this history: each backend replayed it, those that did not fail were enabled in
--- the order of their numbers, and then each transaction that was left open was ended. No session is open, and there is
--- no dump.
+-- the order of their numbers, and then each transaction that was left open was ended. No session is open, and there
+-- is no dump.
 pub record HasStarted (p : Placement) (opening : List Event) (faults : List ℕ) (w : WorldState) : Type 0 where
   pub placement : w.core.placement ≡ p
   pub enabled : List ℕ

@@ -20,6 +20,8 @@ mod given;
 #[cfg(test)]
 mod kept_answers;
 #[cfg(test)]
+mod own_passes;
+#[cfg(test)]
 mod placements;
 #[cfg(test)]
 mod requests;

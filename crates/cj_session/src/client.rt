@@ -112,7 +112,7 @@ impl Client {
         ensures answers { AnswersQuery (setting K.state_of K.leads_to D.drawn D.later (C.moment clock.now)) self.old.user
             (client_state self.old.user desk.old draw.old) text.now result (client_state self.new.user desk.new draw.new) }
         ensures at { IsClientAt self.new.user self.new.tx (K.state_of desk.new) }
-        ensures queries { (K.state_of desk.new).requests ≤ (K.state_of desk.old).requests + 1 }
+        ensures requests { (K.state_of desk.new).requests ≤ (K.state_of desk.old).requests + 1 }
         ensures sendable { IsSendable result }
     {
         let Some(user) = &self.user else {
@@ -148,7 +148,7 @@ impl Client {
         ensures answers { AnswersMessage (setting K.state_of K.leads_to D.drawn D.later (C.moment clock.now))
             (client_state self.old.user desk.old draw.old) message result (client_state self.new.user desk.new draw.new) }
         ensures at { IsClientAt self.new.user self.new.tx (K.state_of desk.new) }
-        ensures queries { (K.state_of desk.new).requests ≤ (K.state_of desk.old).requests + 1 }
+        ensures requests { (K.state_of desk.new).requests ≤ (K.state_of desk.old).requests + 1 }
         ensures sendable { IsSendable result }
     {
         match message {
@@ -179,7 +179,7 @@ impl Client {
         ensures exchanged { ExchangesMessage (setting K.state_of K.leads_to D.drawn D.later (C.moment clock.now)) (O.held output.old) (O.held output.new)
             (client_state self.old.user desk.old draw.old) message (client_state self.new.user desk.new draw.new) result }
         ensures at { IsClientAt self.new.user self.new.tx (K.state_of desk.new) }
-        ensures queries { (K.state_of desk.new).requests ≤ (K.state_of desk.old).requests + 1 }
+        ensures requests { (K.state_of desk.new).requests ≤ (K.state_of desk.old).requests + 1 }
         ensures cause { CountsFault (IsErrOf result OutError.Failed) (O.faults output.old) (O.faults output.new) }
     {
         let reply = self.answer(rt, alloc, desk, clock, draw, message);

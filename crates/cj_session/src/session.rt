@@ -100,7 +100,7 @@ impl Session {
             (point (I.left input.old) (O.held output.old) (client_state self.old.client.user desk.old draw.old) self.old.feed self.old.taken)
             (I.left input.new) (O.held output.new) ending (client_state self.new.client.user desk.new draw.new)) }
         ensures at { IsClientAt self.new.client.user self.new.client.tx (K.state_of desk.new) }
-        ensures queries { (K.state_of desk.new).requests ≤ (K.state_of desk.old).requests + 1 }
+        ensures requests { (K.state_of desk.new).requests ≤ (K.state_of desk.old).requests + 1 }
         ensures smaller { IfNone result (2 * (most - self.new.taken) + length self.new.feed < 2 * (most - self.old.taken) + length self.old.feed) }
         ensures input { CountsFault (result ≡ Some SessionEnd.ReadFault) (I.faults input.old) (I.faults input.new) }
         ensures output { CountsFault (result ≡ Some SessionEnd.WriteFault) (O.faults output.old) (O.faults output.new) }

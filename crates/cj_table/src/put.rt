@@ -5,8 +5,8 @@ ghost use Rattle.cj_model.specs.Database.Tables.{column_names, is_distinct};
 ghost use Rattle.cj_table.specs.Put as put;
 
 use crate::slots::put_slot;
-use cj_model::{COLUMN_LIMIT, Column, NoMemory, ROW_LIMIT, Rows, Schema};
 use cj_dml::{has_misfit, is_column, puts};
+use cj_model::{COLUMN_LIMIT, Column, NoMemory, ROW_LIMIT, Rows, Schema};
 use cj_rowstore::StoredTable;
 use std::alloc::Global;
 

@@ -3,8 +3,8 @@
 ghost use Rattle.std.specs.Prelude.{◌≡◌, ◌<◌, ◌≤◌, ◌==◌, count_by, length, map, position, unwrap_or, IfOk};
 ghost use Rattle.cj_model.specs.Database.Steps as steps;
 
-use cj_model::{COLUMN_LIMIT, ColDef, Column, Columns, Create, Names, NoMemory, Schema};
 use cj_dml::is_distinct;
+use cj_model::{COLUMN_LIMIT, ColDef, Column, Columns, Create, Names, NoMemory, Schema};
 use cj_rowstore::StoredTable;
 use std::alloc::Global;
 

@@ -11,11 +11,11 @@ ghost use Rattle.cj_table.specs.Carried.{Carries, CarriesSlot, change_of, is_und
 ghost use Rattle.cj_dml.specs.Changes.{MakesChange};
 
 use crate::schemas::{empty_table, makes_schema};
+use cj_dml::{Change, Decided, decided};
 use cj_model::{
     BAD_COLUMNS, COLUMN_LIMIT, Create, LOCKED, NO_TABLE, Name, NoMemory, Outcome, Refusal,
     TABLE_EXISTS, Write,
 };
-use cj_dml::{Change, Decided, decided};
 use cj_rowstore::{StoredTable, View};
 use std::alloc::Global;
 use std::cmp::Ordering;

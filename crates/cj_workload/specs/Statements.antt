@@ -70,7 +70,8 @@ request_of_statement (Query s) = request.Select s
 
 -- ---- draws
 
--- Statement i, drawn by this generator: an INSERT of key i and a number below 1000, an UPDATE of a key from 1 to i, a look-up of one, and a count of the rows, in turn.
+-- Statement i, drawn by this generator: an INSERT of key i and a number below 1000, an UPDATE of a key from 1 to i, a
+-- look-up of one, and a count of the rows, in turn.
 abbrev pub statement_of : Lcg → ℕ → Request
 statement_of generator i =
     if i % 4 == 1 then request.Write (insertion i (of_generator generator 1000)) else

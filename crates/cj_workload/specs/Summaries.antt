@@ -1,14 +1,16 @@
 -- What a workload comes to.
-use Rattle.std.specs.Prelude.{◌≡◌, ℕ, ◌+◌, ◌-◌, ◌^◌, min, sum, Bool, true, false, List, count_by, MatchOption}
+use Rattle.std.specs.Prelude.{◌≡◌, ℕ, ◌+◌, ◌-◌, ◌^◌, min, sum, Bool, true, false, List, count_by, map, MatchOption}
 use Rattle.cj_cluster.specs.declared.event.Event.{Event}
 use Rattle.cj_cluster.specs.declared.event.Event.TheVariants.{Sched, Ended, ReadFailed, LogFailed, Disabled, Enabled, Marker}
 use Rattle.cj_cluster.specs.History.Histories.{log, database_of}
 use Rattle.cj_cluster.specs.Moves.Moves.{last_number}
+use Rattle.cj_backend.specs.Backends.{Arming}
+use Rattle.cj_state.specs.ArmedCells.{armings_of}
 use Rattle.cj_state.specs.Faults.{faults_of}
 use Rattle.cj_state.specs.Worlds.{WorldState}
 use Rattle.cj_core.specs.Solos.{SoloState}
 use Rattle.cj_workload.specs.declared.summary.Summary.{Summary}
-use Rattle.cj_workload.specs.Holdings.{row_count, rows_in}
+use Rattle.cj_workload.specs.Holdings.{row_count, rows_in, times_armed}
 use Rattle.cj_workload.specs.Workloads.{Begins, PlaysRounds, first_host, session_opened}
 
 -- ---- the history
@@ -28,7 +30,8 @@ enablings h = count_by is_enabling h
 
 -- ---- the summary
 
--- The summary of so many statements, which led from one world to another. Where the backends tell what they hold, each enabled host of the table holds its rows in the one database.
+-- The summary of so many statements, which led from one world to another. Where the backends tell what they hold,
+-- each enabled host of the table holds its rows in the one database.
 pub record IsSummary (tells : Bool) (count : ℕ) (begun ended : WorldState) (s : Summary) : Type 0 where
   pub statements : s.statements ≡ count
   pub entries : s.entries ≡ last_number ended.core
@@ -41,7 +44,8 @@ pub record IsSummary (tells : Bool) (count : ℕ) (begun ended : WorldState) (s 
   pub misses : s.misses ≡ ended.cache.misses
   pub equal : tells ≡ true → s.equal ≡ true
 
--- From this world the workload of so many statements, drawn from the seed, was played, and came to this summary. The log's store failed in nothing.
+-- From this world the workload of so many statements, drawn from the seed, was played, and came to this summary. The
+-- log's store failed in nothing.
 pub record PlaysWorkload (tells armable : Bool) (seed count : ℕ) (first : WorldState) (s : Summary) : Type 0 where
   pub begun : SoloState
   pub begins : Begins tells armable (session_opened first) begun
@@ -49,3 +53,10 @@ pub record PlaysWorkload (tells armable : Bool) (seed count : ℕ) (first : Worl
   pub rounds : PlaysRounds tells armable seed count begun ended
   pub log_faults : ended.world.recovery_log.faults ≡ first.recovery_log.faults
   pub summary : IsSummary tells count begun.world ended.world s
+
+-- ---- the backends
+
+-- These backends have counted as many faults as the world says, and were armed as often.
+pub record HaveCountsOf {B : Type 0} (faults : B → ℕ) (arming : B → Arming) (backends : List B) (w : WorldState) : Type 0 where
+  pub failed : map faults backends ≡ faults_of w.cells
+  pub armed : times_armed arming backends ≡ armings_of w.cells

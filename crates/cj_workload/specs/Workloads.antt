@@ -1,4 +1,5 @@
--- The workload as it is played by one session over a world: rounds of a statement each, between which backends are armed, and brought back from a dump.
+-- The workload as it is played by one session over a world: rounds of a statement each, between which backends are
+-- armed, and brought back from a dump.
 use Rattle.std.specs.Prelude.{◌≡◌, ℕ, zero, suc, ◌+◌, ◌-◌, ◌/◌, ◌%◌, ◌==◌, ◌&&◌, ◌||◌, Bool, true, false, if◌then◌else◌, List, [], codes, find, Ok, Err, MatchOption}
 use Rattle.std.specs.declared.option.Option.{Option}
 use Rattle.std.specs.declared.option.Option.TheVariants.{None, Some}
@@ -57,7 +58,8 @@ dump_name = codes "d"
 
 -- ---- statements and moves
 
--- The session asks for this outside of transactions, for a user without a name, and is answered as by one database. The log's store doesn't fail. No memory is wanting, neither for the reply nor at a backend.
+-- The session asks for this outside of transactions, for a user without a name, and is answered as by one database.
+-- The log's store doesn't fail. No memory is wanting, neither for the reply nor at a backend.
 pub record TakesTurn (tells : Bool) (a : SoloState) (r : Request) (z : SoloState) : Type 0 where
   pub reply : Reply
   pub turn : SoloSteps tells a (turn_taken (next_call (desk_of a) 0 [] r reply)) z
@@ -66,7 +68,8 @@ pub record TakesTurn (tells : Bool) (a : SoloState) (r : Request) (z : SoloState
   -- an entry's end says of no backend that it ran out of memory
   pub none_starved : EndsStarving 0 a.world.core.history z.world.core.history
 
--- A move of no session gives this; where it can't be made now it changes nothing. It leaves the result cache, and no memory is wanting.
+-- A move of no session gives this; where it can't be made now it changes nothing. It leaves the result cache, and no
+-- memory is wanting.
 pub record MakesOwnMove (tells armable : Bool) (a : SoloState) (m : Move) (given : MoveResult) (z : SoloState) : Type 0 where
   pub moves : MovesWorld tells armable a.world m given z.world
   pub session : z.session ≡ a.session

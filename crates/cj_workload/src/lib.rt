@@ -8,7 +8,7 @@
 //! To change a statement: src/statements.rt and specs/Statements.antt. To change a round: src/playing.rt and
 //! src/moving.rt, with specs/Workloads.antt. To add a figure: src/summary.rt and `IsSummary`, then docs/FORMATS.md.
 //!
-//! Proofs begin at proofs/playing/rounds and proofs/playing/play. Moves and turns keep what `Keeps` says
+//! Proofs begin at proofs/playing/rounds and proofs/playing/play. Moves and turns keep what `KeepsSolo` says
 //! (specs/Proving/Keeping.antt; proofs/Kept.antt, proofs/Turned.antt). The figures are in proofs/summary/sum_up.
 #![tactic(auto)]
 

@@ -29,8 +29,8 @@ fn tells_want(moved: &Moved) -> bool
     }
 }
 
-/// Makes a move of one backend. A move that can't be made now changes nothing. It is an error that memory runs out, be
-/// it the backend's, which is out then.
+/// Makes a move of one backend. A move that can't be made now changes nothing.
+/// `NoMemory`: memory ran out, be it at the backend, which is out then.
 fn make<B: Backend, S: Store>(solo: &mut Solo<B, S>, m: Move) -> Result<Made, NoMemory>
     requires met { IsMet solo.old.world.core m }
     requires kind { IsOfBackend m }

@@ -31,7 +31,8 @@ IsOutside (act.Write w) = Unit {0}
 IsOutside (act.Create c) = Unit {0}
 IsOutside _ = ⊥
 
--- From a to z the session made so many requests, and backends were enabled so often. The log's store failed in nothing.
+-- From a to z the session made so many requests, and backends were enabled so often. The log's store failed in
+-- nothing.
 pub record KeepsSolo (asked enabled : ℕ) (a z : SoloState) : Type 0 where
   pub placement : z.world.core.placement ≡ a.world.core.placement
   pub session : z.session ≡ a.session

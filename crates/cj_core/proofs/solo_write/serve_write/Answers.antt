@@ -2,12 +2,12 @@ use Rattle.std.proofs.Common.{List, ℕ, refl, subst}
 use Rattle.cj_core.proofs.Cited.{EntryEnded, begun_running, begun_user, begun_waits, ended_follows, open_user, own_entry, refused, refused_follows, refused_starving, scheduled_starving, stands_refused, wrote}
 use Rattle.cj_core.proofs.solo_write.serve_write.Goals as goal
 
-pub finish-requires-clause-open : goal.finish-requires-clause-open
-finish-requires-clause-open g c =
+pub finish-reply-requires-clause-open : goal.finish-reply-requires-clause-open
+finish-reply-requires-clause-open g c =
     begun_running c.args.s _ c.args.state.now c.schedule_for.new.state c.requires.stands.idle c.in-Ok.ensures.ok
 
-pub finish-requires-clause-waits : goal.finish-requires-clause-waits
-finish-requires-clause-waits g c =
+pub finish-reply-requires-clause-waits : goal.finish-reply-requires-clause-waits
+finish-reply-requires-clause-waits g c =
     begun_waits c.args.s _ c.args.state.now c.schedule_for.new.state c.requires.stands.idle c.in-Ok.ensures.ok refl
 
 pub returns-in-Ok-clause-turn : goal.returns-in-Ok-clause-turn
