@@ -25,7 +25,6 @@ use cj_cluster::BoxedEntry;
 use cj_log::LogMarker;
 use cj_model::{Act, Answer, BACKEND_LIMIT, EVENT_LIMIT, Entry, Name, NoMemory, Select, has_bit};
 use cj_place::Placement;
-use cj_recovery::entry_item;
 use cj_usage::written;
 
 fn needs_backend(act: &Act) -> bool
