@@ -113,3 +113,6 @@ read_at-requires-clause-within g c = rw length-map at (has_cell c.self.invariant
 
 pub read_at-requires-clause-numbered : goal.read_at-requires-clause-numbered
 read_at-requires-clause-numbered g c = λ b d lt. (c.self.invariant.0.world.cells b d lt).number
+
+pub noted-requires-clause-pending : goal.noted-requires-clause-pending
+noted-requires-clause-pending g c = c.read_at.ensures.heard.pending ∙ c.self.invariant.4.1

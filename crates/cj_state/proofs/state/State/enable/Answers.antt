@@ -48,3 +48,6 @@ enable-requires-clause-below g c =
 
 pub hear-requires-clause-numbered : goal.hear-requires-clause-numbered
 hear-requires-clause-numbered g c = λ b d lt. (c.self.invariant.0.world.cells b d lt).number
+
+pub enable-requires-clause-pending : goal.enable-requires-clause-pending
+enable-requires-clause-pending g c = c.hear.ensures.heard.heard.pending ∙ c.self.invariant.4.1

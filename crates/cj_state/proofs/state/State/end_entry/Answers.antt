@@ -48,3 +48,6 @@ hear_all-requires-clause-numbered g c = λ b d lt. (c.self.invariant.0.world.cel
 
 pub end-requires-clause-faults : goal.end-requires-clause-faults
 end-requires-clause-faults g c = λ b on. (ready_heard c.self.inside.book c.hear_all.new.book c.self.inside.tally.failed c.self.invariant.3.1 c.hear_all.ensures.heard).tokens b on
+
+pub end-requires-clause-pending : goal.end-requires-clause-pending
+end-requires-clause-pending g c = c.hear_all.ensures.heard.pending ∙ c.self.invariant.4.1
