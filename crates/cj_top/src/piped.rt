@@ -142,10 +142,14 @@ fn log_over_memory<S: Store + Drop>(world: World<MemBackend, S>) -> S
     ensures left { IsLogOf S.faults S.held S.may S.tells world result }
     ensures none { (b : ℕ) → slice_index_or (faults_of world.cells) b 0 ≡ 0 }
 {
-    let Shared { book, cells, .. } = world.into_shared();
+    let Shared {
+        recovery_log,
+        cells,
+        ..
+    } = world.into_shared();
     show_none(&cells);
-    book.legal();
-    book.into_log()
+    recovery_log.legal();
+    recovery_log.into_log()
 }
 
 /// The command `pipe` with this configuration: serves one session over the log. Answers the exit status of its end,

@@ -94,10 +94,14 @@ fn log_over_memory<S: Store + Drop>(world: World<Armable<MemBackend>, S>) -> S
     ensures left { IsLogOf S.faults S.held S.may S.tells world result }
     ensures armed { HasFailedOnlyArmed world }
 {
-    let Shared { book, cells, .. } = world.into_shared();
+    let Shared {
+        recovery_log,
+        cells,
+        ..
+    } = world.into_shared();
     show_armed(&cells);
-    book.legal();
-    book.into_log()
+    recovery_log.legal();
+    recovery_log.into_log()
 }
 
 /// Plays the lines of the input on a world of new backends, as the configuration has them, over the log, and writes

@@ -11,7 +11,8 @@ pub returns-clause-left : goal.returns-clause-left
 returns-clause-left g c =
     let s = g.S.Store in
     let book = c.into_shared.result.book.state in
-    let log = book.recovery_log in
+    let log = c.into_shared.result.recovery_log.log in
+    let follows = c.into_shared.ensures.follows in
     let left = c.into_log.result in
     let is : left ≡ log.store = c.into_log.ensures in
     let seen = c.into_shared.ensures.recovery_log in
@@ -19,13 +20,13 @@ returns-clause-left g c =
     record {
       counts = ap s.faults is ∙ ap (λ (v : LogView). v.faults) seen;
       bytes = ap s.held is ∙ ap (λ (v : LogView). v.bytes) seen;
-      kept = λ t. subst (λ (h : List Event). IsKeptIn (s.held left) h) same (subst (λ (x : g.row.S.Denot). IsKeptIn (s.held x) book.history) (sym is) (c.legal.ensures.kept t));
+      kept = λ t. subst (λ (h : List Event). IsKeptIn (s.held left) h) same (subst (λ (x : g.row.S.Denot). IsKeptIn (s.held x) book.history) (sym is) (c.legal.ensures.kept book.history follows t));
       stop =
           λ t image may.
           let there : s.may log.store image = subst (λ (x : g.row.S.Denot). s.may x image) is may in
           let now : s.moment log.store ≤ s.moment log.store = omega arith in
           let since = g.met.S.Store.counts_now log.store (s.moment log.store) image now there in
-          subst (λ (h : List Event). IsKeptIn image h) same (kept_left book.history log (c.legal.ensures.logged t) image (λ well. c.legal.ensures.safe t well image there) (λ item. (c.legal.ensures.now t item).each image since));
+          subst (λ (h : List Event). IsKeptIn image h) same (kept_left book.history log (follows.logged t) image (λ well. c.legal.ensures.safe book.history follows t well image there) (λ item. (c.legal.ensures.now t item).each image since));
     }
 
 pub returns-clause-none : goal.returns-clause-none
