@@ -1,4 +1,4 @@
-use Rattle.std.proofs.Common.{◌≡◌, List, filter, length, map, take, rules, arith, ap, ◌∙◌}
+use Rattle.std.proofs.Common.{◌≡◌, List, filter, length, map, take, arith, ap, ◌∙◌}
 use Rattle.cj_model.specs.Cluster.Caching.{needs_one_of}
 use Rattle.cj_cache.proofs.Cited.{Select, cached, common_steps, entries_of_map, listed, popped_each, popped_shown, take_all}
 use Rattle.cj_cache.proofs.held.pop_listed.Goals as goal

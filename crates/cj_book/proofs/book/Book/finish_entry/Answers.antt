@@ -1,5 +1,5 @@
-use Rattle.std.proofs.Common.{◌≡◌, ◌≢◌, ◌+◌, [], ◌∷◌, ◌++◌, List, length, map, None, Option, Some, Ok, ap, sym, subst, refl, ◌∙◌, arith}
-use Rattle.cj_book.proofs.Cited.{Entry, Event, HasCountNotes, IsLegal, IsPendingEntry, LogFailed, Pending, Sched, book_view, by_tables, entry_ready, follows_log_failed, follows_sched, given_after, hearing, history, kept_log_failed, kept_sched, legal_push, log, numbers_after, numbers_before, own_view, placement_of, seen_after, session_number, sessions_after, some_prepared, transactions_after, without_touched}
+use Rattle.std.proofs.Common.{◌≡◌, ◌≢◌, ◌+◌, [], ◌∷◌, ◌++◌, length, map, None, Option, ap, sym, subst, refl, ◌∙◌, arith}
+use Rattle.cj_book.proofs.Cited.{Entry, HasCountNotes, IsLegal, LogFailed, Pending, Sched, book_view, by_tables, entry_ready, follows_log_failed, follows_sched, given_after, hearing, history, kept_log_failed, kept_sched, legal_push, log, numbers_after, numbers_before, own_view, placement_of, seen_after, session_number, sessions_after, some_prepared, transactions_after, without_touched}
 use Rattle.cj_book.specs.Pendings.{prepared_of}
 use Rattle.cj_book.proofs.book.Book.finish_entry.Goals as goal
 

@@ -1,5 +1,5 @@
-use Rattle.std.proofs.Common.{◌≡◌, sym, subst, false}
-use Rattle.cj_book.proofs.Cited.{BookLogState, IsKeptIn, LeavesItems, LogFollows, items_of, kept_in, last_write_failed, shut_where}
+use Rattle.std.proofs.Common.{◌≡◌, sym, subst}
+use Rattle.cj_book.proofs.Cited.{BookLogState, IsKeptIn, LeavesItems, LogFollows, items_of, kept_in, shut_where}
 use Rattle.cj_book.proofs.book_log.BookLog.legal.Goals as goal
 
 pub returns-clause-kept : goal.returns-clause-kept
