@@ -4,7 +4,7 @@ use Rattle.std.proofs.lemmas.Bool.{and_from, or_parts}
 use Rattle.std.proofs.lemmas.List.{map-append}
 use Rattle.std.proofs.lemmas.List.Elements.{All-get_or}
 use Rattle.std.proofs.lemmas.List.Folds.{list_any-append}
-use Rattle.cj_book.proofs.Common.{and_parts, book_session, BookSession, Entry, entry_numbered, Event, get_or_from_slice_get, is_free, is_orphan, is_orphan_of, Layout, list_any, log, Marker, Sched, session_number, slice_get_within, tx_of, without}
+use Rattle.cj_book.proofs.Common.{and_parts, book_session, BookSession, Entry, entry_numbered, Event, get_or_from_slice_get, is_free, is_orphan, is_orphan_of, Layout, list_any, log, LogMarker, Marker, Sched, session_number, slice_get_within, tx_of, without}
 use Rattle.cj_book.specs.Pendings.{bare_book, marker_of, pending_event, prepared_of, IsPendingEntry, IsPendingMarker, KeepsPending}
 use Rattle.cj_book.specs.declared.pending.Pending.{Pending}
 use Rattle.cj_book.specs.declared.pending.Pending.TheVariants as pending
@@ -114,8 +114,8 @@ module _ (layout : Layout) (h : List Event) (ss : List BookSession) (greatest pl
       → KeepsPending layout h (map session_number (ss ++ book_session (greatest + 1) ∷ [])) (greatest + 1) places marker_places tx_places o
   pending_opened known o k = pending_with (map session_number (ss ++ book_session (greatest + 1) ∷ [])) (greatest + 1) (omega arith) (λ s low none.
       ap (list_any (λ n. n == s)) (map-append session_number ss (book_session (greatest + 1) ∷ []))
-      ∙ (list_any-append (λ n. n == s) (map session_number ss) (greatest + 1 ∷ [])
-      ∙ (ap (λ b. b || list_any (λ n. n == s) (greatest + 1 ∷ [])) none ∙ ap (λ b. b || false) (ne_eqb (greatest + 1) s (omega arith))))) known o k
+      ∙ (list_any-append (λ n. n == s) (map session_number ss) ((greatest + 1) ∷ [])
+      ∙ (ap (λ b. b || list_any (λ n. n == s) ((greatest + 1) ∷ [])) none ∙ ap (λ b. b || false) (ne_eqb (greatest + 1) s (omega arith))))) known o k
 
   -- one is closed
   pub pending_closed : (n : ℕ) → All (λ (e : Entry). e.session ≤ greatest) (log h) → (o : Option Pending) → KeepsPending layout h (map session_number ss) greatest places marker_places tx_places o
