@@ -32,8 +32,8 @@ pub fn prepared_of(pending: Option<Pending>) -> Prepared
     ensures { pendings.prepared_of pending ≡ Some result }
 {
     match pending {
-        Some(Pending::Entry(_, prepared)) => prepared,
-        Some(Pending::Marker(_)) => unreachable!(),
+        Some(Pending::Entry(_entry, prepared)) => prepared,
+        Some(Pending::Marker(_marker)) => unreachable!(),
         None => unreachable!(),
     }
 }
@@ -45,7 +45,7 @@ pub fn marker_of(pending: Option<Pending>) -> LogMarker
 {
     match pending {
         Some(Pending::Marker(marker)) => marker,
-        Some(Pending::Entry(_, _)) => unreachable!(),
+        Some(Pending::Entry(_entry, _prepared)) => unreachable!(),
         None => unreachable!(),
     }
 }
