@@ -90,6 +90,7 @@ fn explanation_of<F: Store>(
 }
 
 /// Tells where a configuration is refused, if there is more to say than the refusal does.
+#[tactic(auto, using(crate::proofs::Statuses::place_told, crate::proofs::Statuses::nothing_told, crate::proofs::Statuses::none_has_three))]
 fn tell_place<F: Store, E: Sink>(alloc: Global, conf: &mut F, errors: &mut E)
     ensures told { Explains (E.held errors.old) (E.held errors.new) (E.faults errors.old) (E.faults errors.new) 3 }
     ensures conf { F.tells ≡ true → F.held conf.new ≡ F.held conf.old }
@@ -107,6 +108,7 @@ fn tell_place<F: Store, E: Sink>(alloc: Global, conf: &mut F, errors: &mut E)
 ///
 /// `taken` is what the run took last of its input, and `files` is what is known of the files. The configuration is read
 /// once more at 3 and 10. A failure of the errors or of the configuration's store changes nothing else.
+#[tactic(auto, using(crate::proofs::Statuses::reason_told, crate::proofs::Statuses::nothing_told))]
 pub fn explain<F: Store, E: Sink>(
     alloc: Global,
     status: u8,
