@@ -195,6 +195,13 @@ fn apply(
     }
 }
 
+fn rows_of(rt: &impl Abort, asked: Asked) -> Answer {
+    match asked {
+        Asked::Rows(answer) => answer,
+        Asked::Refused(_) => panic!(rt; "refused"),
+    }
+}
+
 /// What the backend answers outside of transactions, and at which position.
 fn ask(
     rt: &impl Abort,
@@ -209,8 +216,8 @@ fn ask(
     ensures cell { cell.new.board ≡ board_id board.now }
 {
     match cell.read(board, login, 0, select, least) {
-        Ok((Asked::Rows(answer), at)) => (answer, at),
-        _ => panic!(rt; "no rows"),
+        Ok((asked, at)) => (rows_of(rt, asked), at),
+        Err(_) => panic!(rt; "no answer"),
     }
 }
 
