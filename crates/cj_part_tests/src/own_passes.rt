@@ -1,9 +1,9 @@
 //! Two sessions with own passes, over one book and two backends in memory at one board.
 
-ghost use Rattle.std.specs.Prelude.{◌≡◌, ◌<◌, ℕ, true, [], All, Contains, IfOk, Some};
+ghost use Rattle.std.specs.Prelude.{◌≡◌, ◌<◌, ℕ, true, [], length, All, Contains, IfOk, Some};
 ghost use mathlib.Core.List.{IsPrefix};
 ghost use Rattle.cj_board.specs.declared.view.Role.TheVariants as role;
-ghost use Rattle.cj_board.specs.Seats.{board_id, book_board, book_view, cell_board, cell_view, front, pass_board, pass_view};
+ghost use Rattle.cj_board.specs.Seats.{board_id, book_board, book_view, cell_board, cell_view, front, pass_board, pass_view, AreNewCells};
 ghost use Rattle.cj_board.specs.Views.{new_view};
 ghost use Rattle.cj_cluster.specs.History.Histories.{log};
 ghost use Rattle.cj_cluster.specs.History.Legality.{FitsTx, IsFitEntry};
@@ -15,7 +15,7 @@ ghost use Rattle.cj_part_tests.specs.OwnPasses.{AreReady, IsAtBoard, OwnsPass};
 
 use crate::given::{name, text};
 use cj_balance::Balancer;
-use cj_board::{Board, BookSeat, CellSeat, Pass};
+use cj_board::{Board, BookSeat, CellSeat, CellSeats, Pass};
 use cj_book::{Book, BookParts};
 use cj_cache::Cache;
 use cj_mem::MemBackend;
@@ -287,22 +287,42 @@ fn seated(rt: &impl Abort, alloc: Global, b: u8, seat: CellSeat) -> Result<Cell<
     Ok(Cell::new(alloc, b, placement, MemBackend::new(alloc), seat))
 }
 
+/// Both backends, which are empty, at their seats.
+fn seated_both(
+    rt: &impl Abort,
+    alloc: Global,
+    board: &Board,
+    seats: CellSeats,
+) -> Result<(Cell<MemBackend>, Cell<MemBackend>), Fail>
+    requires two { length seats ≡ 2 }
+    requires new { AreNewCells (board_id board.now) 0 seats }
+    ensures { IfOk result (λ r. (r.0.board ≡ board_id board.now) × (r.1.board ≡ board_id board.now)) }
+{
+    let mut seats = seats.into_vec();
+    let (Some(second), Some(first)) = (seats.pop(), seats.pop()) else {
+        unreachable!()
+    };
+    let first = seated(rt, alloc, 0, first)?;
+    let second = seated(rt, alloc, 1, second)?;
+    Ok((first, second))
+}
+
 /// A board with a cluster at it, of which no backend is enabled.
 fn started(rt: &impl Abort, alloc: Global) -> Result<(Board, Cluster), Fail>
     ensures ready { IfOk result (λ r. AreReady (board_id r.0) r.1.book r.1.first.board r.1.second.board) }
     ensures two { IfOk result (λ r. r.0.backends ≡ 2) }
 {
     let (board, seat, seats, _) = Board::new(alloc, 2)?;
-    let mut seats = seats.into_vec();
-    let (Some(second), Some(first)) = (seats.pop(), seats.pop()) else {
-        unreachable!()
-    };
-    let cluster = Cluster {
-        book: opened_book(rt, alloc, &board, seat)?,
-        first: seated(rt, alloc, 0, first)?,
-        second: seated(rt, alloc, 1, second)?,
-    };
-    Ok((board, cluster))
+    let book = opened_book(rt, alloc, &board, seat)?;
+    let (first, second) = seated_both(rt, alloc, &board, seats)?;
+    Ok((
+        board,
+        Cluster {
+            book,
+            first,
+            second,
+        },
+    ))
 }
 
 impl Cluster {
