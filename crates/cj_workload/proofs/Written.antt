@@ -12,7 +12,7 @@ use Rattle.cj_model.proofs.Spellable.{FineName, FineItem, FineWhere}
 use Rattle.cj_outside.specs.Draws.{of_generator, of_generator_below}
 use Rattle.cj_print.proofs.Forms.{where_form}
 use Rattle.cj_print.proofs.StoredWritten.{written_in_canonical}
-use Rattle.cj_workload.specs.Statements.{creation, insertion, increment, look_up, count_of_rows, column, has_key, query, statement_of}
+use Rattle.cj_workload.specs.Statements.{creation, insertion, increment, look_up, count_of_rows, column, key_equals, query, statement_of}
 
 fine_g : FineName (codes "g")
 unfolding keyword
@@ -36,7 +36,7 @@ insertion_written key value k v =
     written_in_canonical (request.Write (insertion key value)) refl (fine_g, tt, (((tt, le), ((tt, less), tt)), tt)) (tt, (lit≤ tt, lit≤ tt, ((lit≤ tt, lit≤ tt, (k, (v, tt))), tt))) refl
 
 -- k = key fits
-key_fits : (key : ℕ) → key < 2 ^ 63 → WhereFits (where_form (Some (has_key key)))
+key_fits : (key : ℕ) → key < 2 ^ 63 → WhereFits (where_form (Some (key_equals key)))
 key_fits key k = record { nests = (((tt, k), tt), tt); counts = lit≤ tt }
 
 pub increment_written : (key : ℕ) → key < 2 ^ 63 → IsWritten (request.Write (increment key))
@@ -55,7 +55,7 @@ query_written x cond fine where_fine plain fits meant =
 pub look_up_written : (key : ℕ) → key < 2 ^ 63 → IsWritten (request.Select (look_up key))
 look_up_written key k =
     let le : key ≤ 2 ^ 63 = omega arith in
-    query_written (item.Col (column (codes "v"))) (Some (has_key key)) (tt, fine_v) ((tt, fine_k), le) refl (key_fits key k) refl
+    query_written (item.Col (column (codes "v"))) (Some (key_equals key)) (tt, fine_v) ((tt, fine_k), le) refl (key_fits key k) refl
 
 pub count_written : IsWritten (request.Select count_of_rows)
 count_written = query_written item.Count None tt tt refl tt refl

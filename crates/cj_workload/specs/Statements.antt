@@ -44,12 +44,12 @@ abbrev pub insertion : ℕ → ℕ → Write
 insertion key value = Insert table_name None ((number key ∷ number value ∷ []) ∷ [])
 
 -- k = key
-abbrev pub has_key : ℕ → Condition
-has_key key = Test Eq (Col (column (codes "k"))) (number key)
+abbrev pub key_equals : ℕ → Condition
+key_equals key = Test Eq (Col (column (codes "k"))) (number key)
 
 -- UPDATE g SET v = v + 1 WHERE k = key
 abbrev pub increment : ℕ → Write
-increment key = Update table_name (record { column = codes "v"; value = Plus (Col (column (codes "v"))) (number 1) } ∷ []) (Some (has_key key))
+increment key = Update table_name (record { column = codes "v"; value = Plus (Col (column (codes "v"))) (number 1) } ∷ []) (Some (key_equals key))
 
 -- SELECT the item FROM g, where the condition holds
 abbrev pub query : Item → Option Condition → Select
@@ -57,7 +57,7 @@ query x cond = record { items = Listed (x ∷ []); tables = table_name ∷ []; c
 
 -- SELECT v FROM g WHERE k = key
 abbrev pub look_up : ℕ → Select
-look_up key = query (item.Col (column (codes "v"))) (Some (has_key key))
+look_up key = query (item.Col (column (codes "v"))) (Some (key_equals key))
 
 -- SELECT COUNT(*) FROM g
 abbrev pub count_of_rows : Select

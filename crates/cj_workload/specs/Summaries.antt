@@ -9,7 +9,7 @@ use Rattle.cj_state.specs.Worlds.{WorldState}
 use Rattle.cj_core.specs.Solos.{SoloState}
 use Rattle.cj_workload.specs.declared.summary.Summary.{Summary}
 use Rattle.cj_workload.specs.Holdings.{row_count, rows_in}
-use Rattle.cj_workload.specs.Workloads.{Begins, PlaysRounds, first_host, session_opened}
+use Rattle.cj_workload.specs.Workloads.{BeginsWorkload, PlaysRounds, first_host, session_opened}
 
 -- ---- the history
 
@@ -46,7 +46,7 @@ pub record IsSummary (tells : Bool) (count : ℕ) (begun ended : WorldState) (s 
 -- log's store failed in nothing.
 pub record PlaysWorkload (tells armable : Bool) (seed count : ℕ) (first : WorldState) (s : Summary) : Type 0 where
   pub begun : SoloState
-  pub begins : Begins tells armable (session_opened first) begun
+  pub begins : BeginsWorkload tells armable (session_opened first) begun
   pub ended : SoloState
   pub rounds : PlaysRounds tells armable seed count begun ended
   pub log_faults : ended.world.recovery_log.faults ≡ first.recovery_log.faults

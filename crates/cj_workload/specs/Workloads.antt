@@ -77,36 +77,36 @@ pub record MakesOwnMove (tells armable : Bool) (a : SoloState) (m : Move) (given
 
 module _ (tells armable : Bool) where
   -- the move gives something
-  abbrev pub MakesMove : SoloState → Move → SoloState → Type 0
-  MakesMove a m z = (given : MoveResult) × MakesOwnMove tells armable a m given z
+  abbrev pub MakesMoveBetween : SoloState → Move → SoloState → Type 0
+  MakesMoveBetween a m z = (given : MoveResult) × MakesOwnMove tells armable a m given z
 
   -- ---- backends are armed and brought back
 
-  abbrev pub Arms : Option ℕ → SoloState → SoloState → Type 0
-  Arms b a z = MatchOption b (z ≡ a) (λ b. MakesMove a (Arm b) z)
+  abbrev pub ArmsWhereDue : Option ℕ → SoloState → SoloState → Type 0
+  ArmsWhereDue b a z = MatchOption b (z ≡ a) (λ b. MakesMoveBetween a (Arm b) z)
 
   -- backend b is disabled, dumped and enabled
   pub record TakesDump (b : ℕ) (a z : SoloState) : Type 0 where
     pub off : SoloState
-    pub disables : MakesMove a (Disable b) off
+    pub disables : MakesMoveBetween a (Disable b) off
     pub dumped : SoloState
-    pub dumps : MakesMove off (Dump b dump_name) dumped
-    pub enables : MakesMove dumped (Enable b) z
+    pub dumps : MakesMoveBetween off (Dump b dump_name) dumped
+    pub enables : MakesMoveBetween dumped (Enable b) z
 
   -- backend b takes so many entries, one after another
   abbrev pub TakesEntries : ℕ → ℕ → SoloState → SoloState → Type 0
   TakesEntries b zero a z = z ≡ a
-  TakesEntries b (suc n) a z = (m : SoloState) × TakesEntries b n a m × MakesMove m (Replay b) z
+  TakesEntries b (suc n) a z = (m : SoloState) × TakesEntries b n a m × MakesMoveBetween m (Replay b) z
 
   -- backend b takes the entries behind position n, to the end of the log, and is enabled
-  pub record CatchesUp (b n : ℕ) (a z : SoloState) : Type 0 where
+  pub record CatchesUpAndEnables (b n : ℕ) (a z : SoloState) : Type 0 where
     pub last : SoloState
     pub takes : TakesEntries b (last_number a.world.core - n) a last
-    pub enables : MakesMove last (Enable b) z
+    pub enables : MakesMoveBetween last (Enable b) z
 
   -- what follows the load of a dump that gave this: nothing, unless it was loaded
   abbrev pub FollowsLoad : ℕ → MoveResult → SoloState → SoloState → Type 0
-  FollowsLoad b (Ok (moved.Loaded n)) a z = CatchesUp b n a z
+  FollowsLoad b (Ok (moved.Loaded n)) a z = CatchesUpAndEnables b n a z
   FollowsLoad b _ a z = z ≡ a
 
   -- backend b is loaded from the dump, where that covers what it hosts, and catches up
@@ -128,7 +128,7 @@ module _ (tells armable : Bool) where
   -- ---- the workload
 
   -- The table is made, and its first host is dumped, if it has one.
-  pub record Begins (a z : SoloState) : Type 0 where
+  pub record BeginsWorkload (a z : SoloState) : Type 0 where
     pub made : SoloState
     pub makes : TakesTurn tells a (request.Create creation) made
     pub dumps : MatchOption (first_host made.world.core.placement) (z ≡ made) (λ b. TakesDump b made z)
@@ -136,7 +136,7 @@ module _ (tells armable : Bool) where
   -- Round i: a backend may be armed, the statement is answered, and each backend that is out then is brought back.
   pub record PlaysRound (i : ℕ) (statement : Request) (a z : SoloState) : Type 0 where
     pub armed : SoloState
-    pub arms : Arms (due a.world.core.placement i) a armed
+    pub arms : ArmsWhereDue (due a.world.core.placement i) a armed
     pub answered : SoloState
     pub turn : TakesTurn tells armed statement answered
     pub repairs : RepairsEach answered.world.core.placement.backends answered z

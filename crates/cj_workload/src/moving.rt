@@ -8,7 +8,7 @@ ghost use Rattle.cj_place.specs.Layouts.{placement_of};
 ghost use Rattle.cj_workload.specs.Proving.Keeping as keeping;
 ghost use Rattle.cj_workload.specs.Proving.Keeping.{IsOfBackend, KeepsSolo};
 ghost use Rattle.cj_workload.specs.Workloads as workload;
-ghost use Rattle.cj_workload.specs.Workloads.{Arms, CatchesUp, MakesOwnMove, MakesMove, Repairs, RepairsEach, TakesDump, TakesEntries};
+ghost use Rattle.cj_workload.specs.Workloads.{ArmsWhereDue, CatchesUpAndEnables, MakesOwnMove, MakesMoveBetween, Repairs, RepairsEach, TakesDump, TakesEntries};
 
 use crate::statements::{letter, table};
 use cj_backend::Backend;
@@ -64,7 +64,7 @@ fn enabled_by(made: &Made) -> u64
 /// Enables the backend, if that can be done now. Answers how many backends were enabled: 1 or 0.
 fn enable<B: Backend, S: Store>(solo: &mut Solo<B, S>, b: u8) -> Result<u64, NoMemory>
     requires { b < solo.old.world.core.placement.backends }
-    ensures made { IfOk result (λ _. MakesMove B.tells B.can_be_armed solo.old (Move.Enable b) solo.new) }
+    ensures made { IfOk result (λ _. MakesMoveBetween B.tells B.can_be_armed solo.old (Move.Enable b) solo.new) }
     ensures keeps { IfOk result (λ enabled. KeepsSolo 0 enabled solo.old solo.new) }
     ensures few { IfOk result (λ enabled. enabled ≤ 1) }
 {
@@ -88,7 +88,7 @@ pub fn take_dump<B: Backend, S: Store>(solo: &mut Solo<B, S>, b: u8) -> Result<(
 /// Has the backend replay the next entry of the log, if it can.
 fn take_entry<B: Backend, S: Store>(solo: &mut Solo<B, S>, b: u8) -> Result<(), NoMemory>
     requires { b < solo.old.world.core.placement.backends }
-    ensures made { IfOk result (λ _. MakesMove B.tells B.can_be_armed solo.old (Move.Replay b) solo.new) }
+    ensures made { IfOk result (λ _. MakesMoveBetween B.tells B.can_be_armed solo.old (Move.Replay b) solo.new) }
     ensures keeps { IfOk result (λ _. KeepsSolo 0 0 solo.old solo.new) }
 {
     make(solo, Move::Replay { b })?;
@@ -118,7 +118,7 @@ fn catch_up<B: Backend, S: Store>(
     position: u64,
 ) -> Result<u64, NoMemory>
     requires { b < solo.old.world.core.placement.backends }
-    ensures made { IfOk result (λ _. CatchesUp B.tells B.can_be_armed b position solo.old solo.new) }
+    ensures made { IfOk result (λ _. CatchesUpAndEnables B.tells B.can_be_armed b position solo.old solo.new) }
     ensures keeps { IfOk result (λ enabled. KeepsSolo 0 enabled solo.old solo.new) }
     ensures few { IfOk result (λ enabled. enabled ≤ 1) }
 {
@@ -184,7 +184,7 @@ fn due(placement: &Placement, i: u64) -> Option<u8>
 
 /// Arms the backend that is due before statement `i`, if one is.
 pub fn arm<B: Backend, S: Store>(solo: &mut Solo<B, S>, i: u64) -> Result<(), NoMemory>
-    ensures made { IfOk result (λ _. Arms B.tells B.can_be_armed (workload.due solo.old.world.core.placement i) solo.old solo.new) }
+    ensures made { IfOk result (λ _. ArmsWhereDue B.tells B.can_be_armed (workload.due solo.old.world.core.placement i) solo.old solo.new) }
     ensures keeps { IfOk result (λ _. KeepsSolo 0 0 solo.old solo.new) }
 {
     if let Some(b) = due(solo.world().placement(), i) {

@@ -12,7 +12,7 @@ ghost use Rattle.cj_workload.specs.Proving.Keeping.{IsOutside, KeepsSolo};
 ghost use Rattle.cj_workload.specs.Statements.{request_of_statement};
 ghost use Rattle.cj_workload.specs.Summaries.{PlaysWorkload};
 ghost use Rattle.cj_workload.specs.Workloads as workload;
-ghost use Rattle.cj_workload.specs.Workloads.{Begins, PlaysRound, PlaysRounds, TakesTurn};
+ghost use Rattle.cj_workload.specs.Workloads.{BeginsWorkload, PlaysRound, PlaysRounds, TakesTurn};
 
 use crate::moving::{arm, first_host, repair_each, take_dump};
 use crate::statements::{Statement, creation, next_statement};
@@ -223,7 +223,7 @@ fn begin<B: Backend, S: Store>(
 ) -> Result<(), Stop>
     requires user { user.now ≡ [] }
     requires room { (session_at solo.old.world.core solo.old.session).requests < REQUEST_LIMIT }
-    ensures begins { IfOk result (λ _. Begins B.tells B.can_be_armed solo.old solo.new) }
+    ensures begins { IfOk result (λ _. BeginsWorkload B.tells B.can_be_armed solo.old solo.new) }
     ensures keeps { IfOk result (λ _. (enabled : ℕ) × KeepsSolo 1 enabled solo.old solo.new) }
 {
     let create = creation(alloc)?;

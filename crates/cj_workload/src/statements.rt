@@ -106,7 +106,7 @@ fn insertion(alloc: Global, key: u64, value: u64) -> Result<Write, NoMemory>
 /// k = key
 fn has_key(key: u64) -> Cond
     requires { key < 2 ^ 63 }
-    ensures { result ≡ spec.has_key key }
+    ensures { result ≡ spec.key_equals key }
 {
     Cond::of(CondNode::Test(Cmp::Eq, Term::Col(column(b'k')), number(key)))
 }

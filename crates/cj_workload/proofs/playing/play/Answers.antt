@@ -1,7 +1,7 @@
 use Rattle.std.proofs.Common.{◌≡◌, ◌∙◌, ◌+◌, ap, subst, arith}
 use Rattle.cj_workload.proofs.Common.{session_at, SoloState, WorldState}
 use Rattle.cj_workload.specs.Summaries.{IsSummary, enablings}
-use Rattle.cj_workload.specs.Workloads.{Begins}
+use Rattle.cj_workload.specs.Workloads.{BeginsWorkload}
 use Rattle.cj_workload.proofs.Rounds.{none_asked}
 use Rattle.cj_workload.proofs.playing.play.Goals as goal
 
@@ -30,7 +30,7 @@ returns-clause-played g c =
     let i = subst (λ (w : WorldState). enablings w.core.history ≡ enablings begun.world.core.history + n → IsSummary tells c.args.count begun.world w c.in_ok-summary.summary) c.close.ensures (c.in_ok-summary.ensures.summary begun.world) c.in_ok-enabled.ensures.keeps.counted in
     record {
       begun = begun;
-      begins = subst (λ (s : SoloState). Begins tells armable s begun) c.in-Ok.ensures.opened c.in_ok-begin.ensures.begins;
+      begins = subst (λ (s : SoloState). BeginsWorkload tells armable s begun) c.in-Ok.ensures.opened c.in_ok-begin.ensures.begins;
       ended = ended;
       rounds = c.in_ok-enabled.ensures.plays;
       log_faults = c.in_ok-enabled.ensures.keeps.log_faults ∙ (c.in_ok-begin.ensures.keeps.1.log_faults ∙ ap (λ (s : SoloState). s.world.recovery_log.faults) c.in-Ok.ensures.opened);
