@@ -4,16 +4,20 @@ pub use Rattle.cj_board.specs.Seats.{book_view, history, pass_view}
 pub use Rattle.cj_board.specs.Steps.{HasCountNotes, after_append, after_join}
 pub use Rattle.cj_board.specs.Views.{next_session, pass_without_tokens}
 pub use Rattle.cj_board.specs.declared.view.SeatView.{SeatView}
+pub use Rattle.cj_book.specs.BookLogs.{BookLogState, HasCountedLogFaults, LogFollows}
 pub use Rattle.cj_book.specs.Books.{BookState, IsKeptIn, IsOfGiven, IsOfKnown, log_failed_after, has_session, is_orphan, is_orphan_of, is_target_at, last_write_failed, marker_in, markers_of, placement_at}
 pub use Rattle.cj_book.specs.Counters.{CanCount, book_after, hearing, own_view, pass_after}
 pub use Rattle.cj_book.specs.Found.{IsRecovered}
 pub use Rattle.cj_book.specs.Kept.{Follows, IsKeptSession, KeepsEntries, KeepsTransactions}
-pub use Rattle.cj_book.specs.Lists.{IsIndexOf, book_session, numbered, session_number, sessions_after, transactions_after, tx_number, without}
-pub use Rattle.cj_book.specs.Seated.{HasCountedLogFaults, SeatedBook, event_or_fault, told_book, told_pass}
+pub use Rattle.cj_book.specs.Lists.{IsIndexOf, TransactionList, book_session, numbered, session_number, sessions_after, transactions_after, tx_number, without}
+pub use Rattle.cj_book.specs.Seated.{SeatedBook, event_or_fault, told_book, told_pass}
+pub use Rattle.cj_book.specs.Pendings.{bare_book, pending_event, IsPendingEntry, IsPendingMarker, KeepsPending}
 pub use Rattle.cj_book.specs.Starts.{Starts, greatest_session}
 pub use Rattle.cj_book.specs.Touching.{has_table, is_written_in}
 pub use Rattle.cj_book.specs.declared.error.BookError.{BookError}
 pub use Rattle.cj_book.specs.declared.error.BookError.TheVariants.{HistoryFull, InProgress, LogFault, NoBackend, NoMemory}
+pub use Rattle.cj_book.specs.declared.pending.Pending.{Pending}
+pub use Rattle.cj_book.specs.declared.pending.Prepared.{Prepared}
 pub use Rattle.cj_book.specs.declared.recovered.Recovered.{Recovered}
 pub use Rattle.cj_book.specs.declared.sessions.BookSession.{BookSession}
 pub use Rattle.cj_book.specs.declared.transactions.OpenTransaction.{OpenTransaction}

@@ -6,7 +6,6 @@ use Rattle.cj_model.specs.Cluster.Caching.{CacheState}
 use Rattle.cj_model.specs.Cluster.Balancing.{Balance}
 use Rattle.cj_cluster.specs.History.Histories.{scheduled_entry, is_end_event, log, ended_count, is_free, open_entry_of, is_enabled, events_left, markers, tx_of}
 use Rattle.cj_cluster.proofs.Pushed.{enabled-push, log-sched, log-same, legal_push, opened-sched, opened-same, opened-free, opened-ended}
-use Rattle.cj_log.specs.Logs.{LogState}
 use Rattle.cj_book.specs.Kept.{IsKeptSession, KeepsSessions, KeepsTransactions, KeepsTargets, Follows}
 use Rattle.cj_book.proofs.Numbered.{found_among, found_holds, found_number, member_holds}
 use Rattle.cj_book.proofs.TransactionSteps.{EndsOf, own_end, numbered_entry, concerns_push, sessions_opened, sessions_push, transactions_push}
@@ -87,9 +86,9 @@ module _ (layout : Layout) (h : List Event) (greatest mask : ℕ) (ss : List Boo
 
   -- ---- an entry that is scheduled
 
-  module _ {S : Type 0} (recovery_log : LogState S) (balance : Balance) (cache : CacheState) (e : Entry) where
-    abbrev book : BookState S
-    book = record { layout = layout; history = h; sessions = map session_number ss; greatest = greatest; balance = balance; cache = cache; recovery_log = recovery_log }
+  module _ (balance : Balance) (cache : CacheState) (e : Entry) where
+    abbrev book : BookState
+    book = record { layout = layout; history = h; sessions = map session_number ss; greatest = greatest; balance = balance; cache = cache }
 
     -- an open session's number was given
     given_number : has_session book e.session ≡ true → (0 < e.session) × (e.session ≤ greatest)

@@ -1,14 +1,12 @@
 -- A book with one more event.
 use Rattle.std.proofs.Common.{◌≡◌, ◌≢◌, Bool, ℕ, ◌+◌, ◌-◌, ◌*◌, ◌^◌, ◌%◌, ◌<◌, ◌≤◌, ◌==◌, ◌&&◌, ◌||◌, not, true, false, List, [], ◌∷◌, ◌++◌, length, map, All, Option, None, bit_and, bit_or, refl, ap, sym, ◌∙◌, subst, arith, length-append, ⊎_elim}
 use Rattle.std.proofs.lemmas.Bool.{eqb-true, eqb-false, and_parts, or_cases}
-use Rattle.cj_book.proofs.Common.{AreFitMasks, BookSession, bytes_eq, Disabled, Enabled, enabled_after_event, Ended, ended_count, Entry, entry_item, Event, events_left, log_failed_after, in_mask, is_enabled, is_end_event, is_free, items_behind, Layout, list_any, log, log_failure_session, LogFailed, LogItem, LogMarker, Marker, marker_item, markers, next, OpenTransaction, ReadFailed, Sched, scheduled_entry, session_number}
+use Rattle.cj_book.proofs.Common.{AreFitMasks, BookSession, bytes_eq, Disabled, Enabled, enabled_after_event, Ended, ended_count, Entry, Event, events_left, in_mask, is_enabled, is_end_event, is_free, items_behind, Layout, list_any, log, LogFailed, LogMarker, Marker, markers, OpenTransaction, ReadFailed, Sched, scheduled_entry, session_number}
 use Rattle.cj_cluster.proofs.Pushed.{enabled-push, log-sched, log-same, done-same, done-ended}
 use Rattle.cj_book.proofs.Marked.{marked_more, marked_same, marked_sched}
 use Rattle.cj_book.specs.Books.{IsOpenSession}
 use Rattle.cj_book.specs.Kept.{Follows, IsKeptBook, KeepsEntries}
-use Rattle.cj_book.proofs.Counted.{counted_fault, counted_more}
 use Rattle.cj_book.proofs.Following.{follows_disabled, follows_ended, follows_enabled, follows_log_failed, follows_marker, follows_read_failed}
-use Rattle.cj_book.proofs.Logged.{gate_same, gate_shut, items_marker, items_same, items_sched, write_after}
 use Rattle.cj_model.proofs.MaskBits.{has_without, has_cleared, has_set}
 
 -- ---- the entries and the enabled backends
@@ -109,92 +107,53 @@ module _ {n : ℕ} {h : List Event} {kept : List Entry} {ended on : ℕ} (k : Ke
 abbrev pub marker_behind : List Event → List ℕ → Option ℕ → LogMarker
 marker_behind h name b = record { after = length (log h); name = name; b = b }
 
-module _ {tells : Bool} {layout : Layout} {h : List Event} {kept : List Entry} {ended on greatest targets : ℕ} {ss : List BookSession} {ts : List OpenTransaction} {marks : List LogMarker} {given : List ℕ} {items : List LogItem} {torn : Bool} {before now : ℕ}
-    (k : IsKeptBook tells layout h kept ended on greatest targets ss ts marks given items torn before now) where
+module _ {layout : Layout} {h : List Event} {kept : List Entry} {ended on greatest targets : ℕ} {ss : List BookSession} {ts : List OpenTransaction} {marks : List LogMarker} {given : List ℕ} (k : IsKeptBook layout h kept ended on greatest targets ss ts marks given) where
   -- an event that is no item of the log
-  kept_more : (e : Event) {ended' on' targets' : ℕ} → log_failure_session e ≡ None → ((n : ℕ) → items_behind n (e ∷ []) ≡ []) → ((failed : Bool) → log_failed_after failed e ≡ failed) → KeepsEntries (length layout.names) (h ++ e ∷ []) kept ended' on'
-      → Follows layout (h ++ e ∷ []) greatest targets' ss ts → IsKeptBook tells layout (h ++ e ∷ []) kept ended' on' greatest targets' ss ts marks given items torn before now
-  kept_more e unfailed none quiet history follows = record {
+  kept_more : (e : Event) {ended' on' targets' : ℕ} → ((n : ℕ) → items_behind n (e ∷ []) ≡ []) → KeepsEntries (length layout.names) (h ++ e ∷ []) kept ended' on' → Follows layout (h ++ e ∷ []) greatest targets' ss ts
+      → IsKeptBook layout (h ++ e ∷ []) kept ended' on' greatest targets' ss ts marks given
+  kept_more e none history follows = record {
     history = history;
     follows = follows;
     marked = k.marked ∙ sym (marked_same h e none);
     within = k.within;
     owned = k.owned;
-    logged = λ t. items_same h e items none (k.logged t);
-    gate = gate_same tells torn h e quiet k.gate;
-    faults = counted_more h before now k.faults e unfailed;
   }
 
-  pub kept_disabled : (b : ℕ) → on < 2 ^ 32 → b < length layout.names → 0 < events_left h → is_free h ≡ true → is_enabled h b ≡ true
-      → IsKeptBook tells layout (h ++ Disabled b ∷ []) kept ended (bit_and on (4294967295 - 1 * 2 ^ b % 4294967296)) greatest targets ss ts marks given items torn before now
-  kept_disabled b fits named space idle was = kept_more (Disabled b) refl (λ n. refl) (λ f. refl) (keeps_disabled k.history b fits named space) (follows_disabled _ _ _ _ _ _ k.follows b space idle was)
+  pub kept_disabled : (b : ℕ) → on < 2 ^ 32 → b < length layout.names → 0 < events_left h → is_free h ≡ true → is_enabled h b ≡ true → IsKeptBook layout (h ++ Disabled b ∷ []) kept ended (bit_and on (4294967295 - 1 * 2 ^ b % 4294967296)) greatest targets ss ts marks given
+  kept_disabled b fits named space idle was = kept_more (Disabled b) (λ n. refl) (keeps_disabled k.history b fits named space) (follows_disabled _ _ _ _ _ _ k.follows b space idle was)
 
-  pub kept_enabled : (b : ℕ) → b < length layout.names → 0 < events_left h → is_free h ≡ true → is_enabled h b ≡ false
-      → IsKeptBook tells layout (h ++ Enabled b ∷ []) kept ended (bit_or on (1 * 2 ^ b % 4294967296)) greatest targets ss ts marks given items torn before now
-  kept_enabled b named space idle was = kept_more (Enabled b) refl (λ n. refl) (λ f. refl) (keeps_enabled k.history b named space) (follows_enabled _ _ _ _ _ _ k.follows b space idle was)
+  pub kept_enabled : (b : ℕ) → b < length layout.names → 0 < events_left h → is_free h ≡ true → is_enabled h b ≡ false → IsKeptBook layout (h ++ Enabled b ∷ []) kept ended (bit_or on (1 * 2 ^ b % 4294967296)) greatest targets ss ts marks given
+  kept_enabled b named space idle was = kept_more (Enabled b) (λ n. refl) (keeps_enabled k.history b named space) (follows_enabled _ _ _ _ _ _ k.follows b space idle was)
 
-  pub kept_read_failed : (s q b : ℕ) → 0 < events_left h → IsKeptBook tells layout (h ++ ReadFailed s q b ∷ []) kept ended on greatest targets ss ts marks given items torn before now
-  kept_read_failed s q b space = kept_more (ReadFailed s q b) refl (λ n. refl) (λ f. refl) (keeps_quiet k.history (ReadFailed s q b) refl refl (λ x t. refl) space) (follows_read_failed _ _ _ _ _ _ k.follows s q b space)
+  pub kept_read_failed : (s q b : ℕ) → 0 < events_left h → IsKeptBook layout (h ++ ReadFailed s q b ∷ []) kept ended on greatest targets ss ts marks given
+  kept_read_failed s q b space = kept_more (ReadFailed s q b) (λ n. refl) (keeps_quiet k.history (ReadFailed s q b) refl refl (λ x t. refl) space) (follows_read_failed _ _ _ _ _ _ k.follows s q b space)
 
-  pub kept_ended : (f s : ℕ) → on < 2 ^ 32 → f < 2 ^ 32 → s < 2 ^ 32 → is_free h ≡ false → AreFitMasks h f s
-      → IsKeptBook tells layout (h ++ Ended f s ∷ []) kept (ended + 1) (bit_and on (4294967295 - bit_or f s)) greatest 0 ss ts marks given items torn before now
-  kept_ended f s fits p q is_open masks =
-      kept_more (Ended f s) refl (λ n. refl) (λ f. refl) (keeps_ended k.history f s fits p q is_open) (follows_ended _ _ _ _ _ _ k.follows f s k.history.short is_open k.history.one_open masks)
+  pub kept_ended : (f s : ℕ) → on < 2 ^ 32 → f < 2 ^ 32 → s < 2 ^ 32 → is_free h ≡ false → AreFitMasks h f s → IsKeptBook layout (h ++ Ended f s ∷ []) kept (ended + 1) (bit_and on (4294967295 - bit_or f s)) greatest 0 ss ts marks given
+  kept_ended f s fits p q is_open masks = kept_more (Ended f s) (λ n. refl) (keeps_ended k.history f s fits p q is_open) (follows_ended _ _ _ _ _ _ k.follows f s k.history.short is_open k.history.one_open masks)
 
-  -- ---- calls that write to the log
+  -- ---- calls whose item was given to the log
 
-  -- it was refused for want of memory
-  pub kept_wanting : {items' : List LogItem} {torn' : Bool} {now' : ℕ} → (tells ≡ true → items' ≡ items) → (tells ≡ true → torn' ≡ true → torn ≡ true) → now' ≡ now
-      → IsKeptBook tells layout h kept ended on greatest targets ss ts marks given items' torn' before now'
-  kept_wanting same memory count = record {
-    history = k.history;
-    follows = k.follows;
-    marked = k.marked;
-    within = k.within;
-    owned = k.owned;
-    logged = λ t. k.logged t ∙ sym (same t);
-    gate = λ t up. k.gate t (memory t up);
-    faults = rw count k.faults;
-  }
-
-  -- or since the store failed
-  pub kept_log_failed : (s q : ℕ) {items' : List LogItem} {torn' : Bool} {now' : ℕ} → 0 < events_left h → is_free h ≡ true → (tells ≡ true → items' ≡ items) → now' ≡ next now
-      → IsKeptBook tells layout (h ++ LogFailed s q ∷ []) kept ended on greatest targets ss ts marks given items' torn' before now'
-  kept_log_failed s q space idle same count = record {
-    history = keeps_quiet k.history (LogFailed s q) refl refl (λ x t. refl) space;
-    follows = follows_log_failed _ _ _ _ _ _ k.follows s q space idle;
-    marked = k.marked ∙ sym (marked_same h (LogFailed s q) (λ n. refl));
-    within = k.within;
-    owned = k.owned;
-    logged = λ t. items_same h (LogFailed s q) items (λ n. refl) (k.logged t) ∙ sym (same t);
-    gate = λ t up. write_after h (LogFailed s q);
-    faults = rw count (counted_fault h before now k.faults s q);
-  }
+  -- its store failed
+  pub kept_log_failed : (s q : ℕ) → 0 < events_left h → is_free h ≡ true → IsKeptBook layout (h ++ LogFailed s q ∷ []) kept ended on greatest targets ss ts marks given
+  kept_log_failed s q space idle = kept_more (LogFailed s q) (λ n. refl) (keeps_quiet k.history (LogFailed s q) refl refl (λ x t. refl) space) (follows_log_failed _ _ _ _ _ _ k.follows s q space idle)
 
   -- a marker stands in it
-  pub kept_marker : (name : List ℕ) (b : Option ℕ) {items' : List LogItem} {torn' : Bool} {now' : ℕ} → 0 < events_left h → is_free h ≡ true → list_any (bytes_eq name) (markers h) ≡ false
-      → (tells ≡ true → items' ≡ items ++ marker_item (length (log h)) name b ∷ []) → (tells ≡ true → torn' ≡ false) → now' ≡ now → IsKeptBook tells layout (h ++ Marker name b ∷ []) kept ended on greatest targets ss ts (marks ++ marker_behind h name b ∷ []) given items' torn' before now'
-  kept_marker name b {torn' = torn'} space idle fresh added shut count = record {
+  pub kept_marker : (name : List ℕ) (b : Option ℕ) → 0 < events_left h → is_free h ≡ true → list_any (bytes_eq name) (markers h) ≡ false → IsKeptBook layout (h ++ Marker name b ∷ []) kept ended on greatest targets ss ts (marks ++ marker_behind h name b ∷ []) given
+  kept_marker name b space idle fresh = record {
     history = keeps_quiet k.history (Marker name b) refl refl (λ x t. refl) space;
     follows = follows_marker _ _ _ _ _ _ k.follows name b space idle fresh;
     marked = ap (λ (l : List LogMarker). l ++ marker_behind h name b ∷ []) k.marked ∙ sym (marked_more h name b);
     within = k.within;
     owned = k.owned;
-    logged = λ t. items_marker h name b ∙ (ap (λ (l : List LogItem). l ++ marker_item (length (log h)) name b ∷ []) (k.logged t) ∙ sym (added t));
-    gate = gate_shut tells torn' (h ++ Marker name b ∷ []) shut;
-    faults = rw count (counted_more h before now k.faults (Marker name b) refl);
   }
 
   -- an entry stands in it
-  pub kept_sched : (e : Entry) {targets' : ℕ} {ss' : List BookSession} {ts' : List OpenTransaction} {items' : List LogItem} {torn' : Bool} {now' : ℕ} → is_free h ≡ true → 3 ≤ events_left h → Follows layout (h ++ Sched e ∷ []) greatest targets' ss' ts' → map session_number ss' ≡ map session_number ss
-      → (tells ≡ true → items' ≡ items ++ entry_item (length (log h) + 1) e ∷ []) → (tells ≡ true → torn' ≡ false) → now' ≡ now → IsKeptBook tells layout (h ++ Sched e ∷ []) (kept ++ e ∷ []) ended on greatest targets' ss' ts' marks given items' torn' before now'
-  kept_sched e {torn' = torn'} idle space follows numbers added shut count = record {
+  pub kept_sched : (e : Entry) {targets' : ℕ} {ss' : List BookSession} {ts' : List OpenTransaction} → is_free h ≡ true → 3 ≤ events_left h → Follows layout (h ++ Sched e ∷ []) greatest targets' ss' ts' → map session_number ss' ≡ map session_number ss
+      → IsKeptBook layout (h ++ Sched e ∷ []) (kept ++ e ∷ []) ended on greatest targets' ss' ts' marks given
+  kept_sched e idle space follows numbers = record {
     history = keeps_sched k.history e idle space;
     follows = follows;
     marked = k.marked ∙ sym (marked_sched h e);
     within = k.within;
     owned = subst (λ (ns : List ℕ). All (IsOpenSession ns) given) (sym numbers) k.owned;
-    logged = λ t. items_sched h e ∙ (ap (λ (l : List LogItem). l ++ entry_item (length (log h) + 1) e ∷ []) (k.logged t) ∙ sym (added t));
-    gate = gate_shut tells torn' (h ++ Sched e ∷ []) shut;
-    faults = rw count (counted_more h before now k.faults (Sched e) refl);
   }

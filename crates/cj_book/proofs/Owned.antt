@@ -12,7 +12,7 @@ use Rattle.cj_cluster.specs.Moves.Cores.{is_entry_of}
 use Rattle.cj_cluster.proofs.Pushed.{log-same, log-sched, prefix_get, prefix_trans}
 use Rattle.cj_board.specs.Counting.{ends_transaction_of, event_count_of, greatest_of, log_failure_session, log_failure_sessions, session_after, sessions_in}
 use Rattle.cj_board.specs.Views.{count_note_of, next_session, pass_without_tokens}
-use Rattle.cj_book.specs.Books.{BookState, IsSameButLog, with_entry, with_event}
+use Rattle.cj_book.specs.Books.{BookState, with_entry, with_event}
 use Rattle.cj_board.specs.Steps.{after_append}
 use Rattle.cj_book.specs.Seated.{event_or_fault, own_book_after, own_opened, own_pass_after, told_book, told_pass, view_after, GivesOwnPassesOnly, SeatedBook}
 use Rattle.cj_book.proofs.Announcing.{failures_same}
@@ -153,12 +153,12 @@ by_result P (Err (HistoryFull n)) ok failed same = same (λ is. absurd (cc is))
 by_result P (Err LogFault) ok failed same = failed refl
 by_result P (Err NoMemory) ok failed same = same (λ is. absurd (cc is))
 
-pub schedules_greatest : {S : Type 0} (old : BookState S) (e : Entry) (result : Result ℕ BookError) (new : BookState S) → OnOk result (IsSameButLog (with_entry old e) new) → (IsErrOf result LogFault → IsSameButLog (with_event old (LogFailed e.session e.seq)) new)
-    → OnErr result (¬ IsErrOf result LogFault → IsSameButLog old new) → new.greatest ≡ old.greatest
+pub schedules_greatest : (old : BookState) (e : Entry) (result : Result ℕ BookError) (new : BookState) → OnOk result (new ≡ with_entry old e) → (IsErrOf result LogFault → new ≡ with_event old (LogFailed e.session e.seq))
+    → OnErr result (¬ IsErrOf result LogFault → new ≡ old) → new.greatest ≡ old.greatest
 schedules_greatest old e result new ok failed same = by_result (new.greatest ≡ old.greatest) result
-    (on_ok_weaker result (λ is. ap (λ (b : BookState _). b.greatest) is) ok)
-    (λ is. ap (λ (b : BookState _). b.greatest) (failed is))
-    (on_err_weaker result (λ well no_fault. ap (λ (b : BookState _). b.greatest) (well no_fault)) same)
+    (on_ok_weaker result (λ is. ap (λ (b : BookState). b.greatest) is) ok)
+    (λ is. ap (λ (b : BookState). b.greatest) (failed is))
+    (on_err_weaker result (λ well no_fault. ap (λ (b : BookState). b.greatest) (well no_fault)) same)
 
 pub noted_own : (own s k : ℕ) → own ≡ s → 0 < s → count_note_of own k ≡ (s, k) ∷ []
 noted_own own s k is some = let other : own ≢ 0 = omega arith in ap (λ b. cond b [] ((own, k) ∷ [])) (ne_eqb own 0 other) ∙ ap (λ z. (z, k) ∷ []) is
@@ -173,7 +173,7 @@ opened_note v s is some =
     Contains-append_right v.count_notes (notes ++ count_note_of (next_session v) 0) (s, 0) (Contains-append_right notes (count_note_of (next_session v) 0) (s, 0) (own_noted (next_session v) s 0 is some))
 
 -- the book that learned from the pass how far that counts may hear of an event of the session
-pub own_can_count : {S : Type 0} (book : SeatedBook S) (w : SeatView) (x : Event) (s : ℕ) → w.own_session ≡ s → 0 < s → event_count_of s book.state.history ≤ w.count
+pub own_can_count : (book : SeatedBook) (w : SeatView) (x : Event) (s : ℕ) → w.own_session ≡ s → 0 < s → event_count_of s book.state.history ≤ w.count
     → ((t : ℕ) → event_count_of t (book.state.history ++ x ∷ []) ≡ event_count_of t book.state.history + cond (s == t) 1 0) → CanCount book (Some w) x
 own_can_count book w x s own some few counts =
     let note = own_noted w.own_session s (w.count + 1) own some in
@@ -217,12 +217,12 @@ low_sessions greatest e result low =
     let other : greatest_of (sessions_in (LogFailed e.session e.seq ∷ [])) ≡ max e.session 0 = refl in
     or_fault (λ x. greatest_of (sessions_in (x ∷ [])) ≤ greatest) (Sched e) (LogFailed e.session e.seq) result (omega arith) (omega arith)
 
-pub marks_greatest : {S : Type 0} (old : BookState S) (name : List ℕ) (b : Option ℕ) (result : Result ℕ BookError) (new : BookState S) → OnOk result (IsSameButLog (with_event old (Marker name b)) new) → (IsErrOf result LogFault → IsSameButLog (with_event old (LogFailed 0 0)) new)
-    → OnErr result (¬ IsErrOf result LogFault → IsSameButLog old new) → new.greatest ≡ old.greatest
+pub marks_greatest : (old : BookState) (name : List ℕ) (b : Option ℕ) (result : Result ℕ BookError) (new : BookState) → OnOk result (new ≡ with_event old (Marker name b)) → (IsErrOf result LogFault → new ≡ with_event old (LogFailed 0 0))
+    → OnErr result (¬ IsErrOf result LogFault → new ≡ old) → new.greatest ≡ old.greatest
 marks_greatest old name b result new ok failed same = by_result (new.greatest ≡ old.greatest) result
-    (on_ok_weaker result (λ is. ap (λ (b : BookState _). b.greatest) is) ok)
-    (λ is. ap (λ (b : BookState _). b.greatest) (failed is))
-    (on_err_weaker result (λ well no_fault. ap (λ (b : BookState _). b.greatest) (well no_fault)) same)
+    (on_ok_weaker result (λ is. ap (λ (b : BookState). b.greatest) is) ok)
+    (λ is. ap (λ (b : BookState). b.greatest) (failed is))
+    (on_err_weaker result (λ well no_fault. ap (λ (b : BookState). b.greatest) (well no_fault)) same)
 
 pub mark_sessions : {T : Type 0} (greatest : ℕ) (name : List ℕ) (b : Option ℕ) (result : Result T BookError) → (x : Event) → event_or_fault (Marker name b) (LogFailed 0 0) result ≡ Some x → greatest_of (sessions_in (x ∷ [])) ≤ greatest
 mark_sessions greatest name b result =
@@ -231,12 +231,12 @@ mark_sessions greatest name b result =
     or_fault (λ x. greatest_of (sessions_in (x ∷ [])) ≤ greatest) (Marker name b) (LogFailed 0 0) result (omega arith) (omega arith)
 
 -- what was seen before is a beginning of what is seen then
-pub schedules_longer : {S : Type 0} (old : BookState S) (e : Entry) (result : Result ℕ BookError) (new : BookState S) → OnOk result (IsSameButLog (with_entry old e) new) → (IsErrOf result LogFault → IsSameButLog (with_event old (LogFailed e.session e.seq)) new)
-    → OnErr result (¬ IsErrOf result LogFault → IsSameButLog old new) → IsPrefix old.history new.history
+pub schedules_longer : (old : BookState) (e : Entry) (result : Result ℕ BookError) (new : BookState) → OnOk result (new ≡ with_entry old e) → (IsErrOf result LogFault → new ≡ with_event old (LogFailed e.session e.seq))
+    → OnErr result (¬ IsErrOf result LogFault → new ≡ old) → IsPrefix old.history new.history
 schedules_longer old e result new ok failed same = by_result (IsPrefix old.history new.history) result
-    (on_ok_weaker result (λ is. (Sched e ∷ [], sym (ap (λ (b : BookState _). b.history) is))) ok)
-    (λ is. (LogFailed e.session e.seq ∷ [], sym (ap (λ (b : BookState _). b.history) (failed is))))
-    (on_err_weaker result (λ well no_fault. ([], append-nil old.history ∙ sym (ap (λ (b : BookState _). b.history) (well no_fault)))) same)
+    (on_ok_weaker result (λ is. (Sched e ∷ [], sym (ap (λ (b : BookState). b.history) is))) ok)
+    (λ is. (LogFailed e.session e.seq ∷ [], sym (ap (λ (b : BookState). b.history) (failed is))))
+    (on_err_weaker result (λ well no_fault. ([], append-nil old.history ∙ sym (ap (λ (b : BookState). b.history) (well no_fault)))) same)
 
 -- a session that was closed has no own pass
 pub closed_out : (s : ℕ) (given : List ℕ) → ¬ Contains (filter (λ t. not (t == s)) given) s

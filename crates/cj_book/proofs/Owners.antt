@@ -83,7 +83,7 @@ still_numbered l e begin tx found = by_test (tx == 0) refl
         let there : slice_get l (tx - 1) ≡ Some begin = sym (ap (λ b. cond {A = Option Entry} b None (slice_get l (tx - 1))) is) ∙ found in
         ap (λ b. cond {A = Option Entry} b None (slice_get (l ++ e ∷ []) (tx - 1))) is ∙ prefix_get l (l ++ e ∷ []) (tx - 1) begin (e ∷ [], refl) there
 
-module _ {S : Type 0} (book : SeatedBook S) (owners : OwnersAreOpen book) where
+module _ (book : SeatedBook) (owners : OwnersAreOpen book) where
   -- the log's store failed for nobody's request
   pub nobody_failed : (q : ℕ) → IsCounted book (LogFailed 0 q)
   nobody_failed q = λ s here more.

@@ -63,7 +63,7 @@ allowed_last h e legal =
 module _ (p : Placement) (h : List Event) (found new : Recovered) (k : IsRecovered p h found) where
   -- an entry
   pub recovers_sched : (e : Entry) (hosts : ℕ) → IsLegal (h ++ Sched e ∷ []) → (IsFitEntry (log h) e → (b : ℕ) → in_mask hosts b ≡ concerns p b (log h) e.tx e.act) → new.entries.items ≡ found.entries.items ++ e ∷ []
-      → new.transactions ≡ transactions_after found.transactions (length (log h) + 1) hosts e e.act → new.markers.items ≡ found.markers.items → new.greatest ≡ max found.greatest e.session → IsRecovered p (h ++ Sched e ∷ []) new
+      → new.transactions.list ≡ transactions_after found.transactions.list (length (log h) + 1) hosts e e.act → new.markers.items ≡ found.markers.items → new.greatest ≡ max found.greatest e.session → IsRecovered p (h ++ Sched e ∷ []) new
   recovers_sched e hosts legal concerned pushed followed named most =
       let entries : log (h ++ Sched e ∷ []) ≡ log h ++ e ∷ [] = log-sched h e in
       let before : IsLegal h = legal_prefix h (h ++ Sched e ∷ []) (Sched e ∷ [], refl) legal in
@@ -71,19 +71,19 @@ module _ (p : Placement) (h : List Event) (found new : Recovered) (k : IsRecover
       record {
         entries = pushed ∙ (ap (λ (l : List Entry). l ++ e ∷ []) k.entries ∙ sym entries);
         transactions =
-            rw followed (subst (λ (l : List Entry). KeepsTransactions p l (transactions_after found.transactions (length (log h) + 1) hosts e e.act)) (sym entries)
-            (transactions_push (log h) e p found.transactions k.transactions (legal_fit h before) fit hosts (concerned fit)));
+            rw followed (subst (λ (l : List Entry). KeepsTransactions p l (transactions_after found.transactions.list (length (log h) + 1) hosts e e.act)) (sym entries)
+            (transactions_push (log h) e p found.transactions.list k.transactions (legal_fit h before) fit hosts (concerned fit)));
         marked = named ∙ (k.marked ∙ sym (marked_sched h e));
         greatest = most ∙ (ap (λ n. max n e.session) k.greatest ∙ (sym (greatest_push (log h) e) ∙ ap greatest_session (sym entries)));
       }
 
   -- an event that schedules nothing
-  pub recovers_same : (e : Event) → scheduled_entry e ≡ None → new.markers.items ≡ markers_of (h ++ e ∷ []) → new.entries.items ≡ found.entries.items → new.transactions ≡ found.transactions → new.greatest ≡ found.greatest → IsRecovered p (h ++ e ∷ []) new
+  pub recovers_same : (e : Event) → scheduled_entry e ≡ None → new.markers.items ≡ markers_of (h ++ e ∷ []) → new.entries.items ≡ found.entries.items → new.transactions.list ≡ found.transactions.list → new.greatest ≡ found.greatest → IsRecovered p (h ++ e ∷ []) new
   recovers_same e no_entry marked entries transactions most =
       let same : log (h ++ e ∷ []) ≡ log h = log-same h e no_entry in
       record {
         entries = entries ∙ (k.entries ∙ sym same);
-        transactions = rw transactions (subst (λ (l : List Entry). KeepsTransactions p l found.transactions) (sym same) k.transactions);
+        transactions = rw transactions (subst (λ (l : List Entry). KeepsTransactions p l found.transactions.list) (sym same) k.transactions);
         marked = marked;
         greatest = most ∙ (k.greatest ∙ ap greatest_session (sym same));
       }
@@ -116,7 +116,7 @@ module _ (layout : Layout) (items : List LogItem) (h : List Event) (o : OpensTo 
         short = omega arith;
       }
 
-  pub follows_opening : (found : Recovered) → IsRecovered (placement_of layout) h found → Follows layout h found.greatest 0 [] found.transactions
+  pub follows_opening : (found : Recovered) → IsRecovered (placement_of layout) h found → Follows layout h found.greatest 0 [] found.transactions.list
   follows_opening found k = record {
     legal = o.legal;
     sessions = record { each = All-nil (IsKeptSession (log h) found.greatest); known = subst (λ n. All (λ (e : Entry). e.session ≤ n) (log h)) (sym k.greatest) (known_all (log h)) };

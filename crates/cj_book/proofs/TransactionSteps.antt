@@ -439,7 +439,7 @@ module _ (entries : List Entry) (e : Entry) where
 -- ---- orphans
 
 -- a transaction of the list is an orphan where its session isn't open, and no other is one
-module _ {S : Type 0} (p : Placement) (book : BookState S) (ts : List OpenTransaction) (k : KeepsTransactions p (log book.history) ts) where
+module _ (p : Placement) (book : BookState) (ts : List OpenTransaction) (k : KeepsTransactions p (log book.history) ts) where
   abbrev entries : List Entry
   entries = log book.history
 
@@ -468,3 +468,7 @@ module _ {S : Type 0} (p : Placement) (book : BookState S) (ts : List OpenTransa
       one : (o : Option Entry) → entry_numbered entries tx ≡ o → is_orphan_of book tx o ≡ false
       one None is = refl
       one (Some begin) is = rw (ne_eqb (tx_of entries begin.session) tx (absent begin is)) refl
+
+-- the numbers of the open transactions are below that of the next entry
+pub numbers_before : (p : Placement) (entries : List Entry) (ts : List OpenTransaction) (n : ℕ) (e : Entry) → KeepsTransactions p entries ts → n ≡ length entries + 1 → All (λ (t : OpenTransaction). tx_number t < n) ts
+numbers_before p entries ts n e k count = subst (λ m. All (λ (t : OpenTransaction). tx_number t < m) ts) (sym count) (numbers_below entries e p ts k)

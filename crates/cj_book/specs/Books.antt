@@ -11,7 +11,6 @@ use Rattle.cj_cluster.specs.declared.event.Event.TheVariants.{Sched, Ended, Read
 use Rattle.cj_model.specs.Sql.PlainRequests.{request_of}
 use Rattle.cj_model.specs.Cluster.Balancing.{Balance, IsFirst, is_ahead, one_more, picked}
 use Rattle.cj_model.specs.Cluster.Caching.{CacheState}
-use Rattle.cj_cache.specs.Doomed.{ListsDoomed}
 use Rattle.cj_model.specs.Cluster.Masks.{in_mask}
 use Rattle.cj_model.specs.Cluster.Placements.{Placement, hosts_all, concerns}
 use Rattle.cj_cluster.specs.History.Histories.{log, is_free, is_enabled, events_left, tx_of}
@@ -22,17 +21,15 @@ use Rattle.cj_place.specs.Layouts.{Layout, placement_of}
 use Rattle.cj_log.specs.declared.item.LogItem.{LogItem}
 use Rattle.cj_log.specs.declared.item.LogItem.TheVariants as items
 use Rattle.cj_log.specs.declared.item.LogMarker.{LogMarker}
-use Rattle.cj_log.specs.Items.{CanAppend}
-use Rattle.cj_log.specs.Logs.{LogState, KeepsItems}
-use Rattle.cj_recovery.specs.Openings.{entry_item, items_of}
-use Rattle.cj_book.specs.declared.reading.Doomed.{Doomed}
-use Rattle.cj_book.specs.declared.reading.Prepared.{Prepared}
+use Rattle.cj_log.specs.Logs.{KeepsItems}
+use Rattle.cj_recovery.specs.Openings.{items_of}
+use Rattle.cj_book.specs.declared.pending.Prepared.{Prepared}
 use Rattle.cj_book.specs.declared.error.BookError.{BookError}
 use Rattle.cj_book.specs.declared.error.BookError.TheVariants.{InProgress, NoBackend, HistoryFull, LogFault, NoMemory}
 use Rattle.cj_book.specs.Touching.{has_table}
 
 -- What contracts see of a book.
-pub record BookState (S : Type 0) : Type 0 where
+pub record BookState : Type 0 where
   -- the backends' names, and which tables they host
   pub layout : Layout
   pub history : List Event
@@ -43,35 +40,23 @@ pub record BookState (S : Type 0) : Type 0 where
   pub balance : Balance
   -- the answers kept of queries
   pub cache : CacheState
-  -- the recovery log, whose items are those of the history
-  pub recovery_log : LogState S
 
 -- which backends host which tables
-abbrev pub placement_at : {S : Type 0} → BookState S → Placement
+abbrev pub placement_at : BookState → Placement
 placement_at b = placement_of b.layout
 
 -- the book with one more event
-abbrev pub with_event : {S : Type 0} → BookState S → Event → BookState S
+abbrev pub with_event : BookState → Event → BookState
 with_event b e = record b { history = b.history ++ e ∷ [] }
 
--- the book with one more entry, and without the kept answers whose queries need a table that the entry touches
-abbrev pub with_entry : {S : Type 0} → BookState S → Entry → BookState S
+-- the book with one more entry, and without the kept answers whose queries need a table that it touches
+abbrev pub with_entry : BookState → Entry → BookState
 with_entry b e = record (with_event b (Sched e)) { cache = without_touched (log b.history) e b.cache }
 
--- what the cache drops for an entry: exactly the tables that the entry touches, and the kept statements that need one
-pub record IsDoomedBy {S : Type 0} (b : BookState S) (e : Entry) (d : Doomed) : Type 0 where
-  pub tables : (table : List ℕ) → has_table d.tables table ≡ touches_behind (log b.history) e.tx e.act table
-  pub statements : ListsDoomed d.tables b.cache d.statements
-
--- what is prepared for an entry that may come next
-pub record IsPrepared {S : Type 0} (b : BookState S) (e : Entry) (p : Prepared) : Type 0 where
-  pub hosts : (k : ℕ) → in_mask p.hosts k ≡ concerns (placement_at b) k (log b.history) e.tx e.act
-  pub doomed : IsDoomedBy b e p.doomed
-  pub item : (p.item ≡ entry_item (length (log b.history) + 1) e) × CanAppend p.item
-
--- the book is unchanged, except maybe for its recovery log
-abbrev pub IsSameButLog : {S : Type 0} → BookState S → BookState S → Type 0
-IsSameButLog old new = new ≡ record old { recovery_log = new.recovery_log }
+-- what is prepared for an entry that may come next: the backends that it concerns, and exactly the tables that it touches
+pub record IsPrepared (p : Placement) (h : List Event) (e : Entry) (prepared : Prepared) : Type 0 where
+  pub hosts : (b : ℕ) → in_mask prepared.hosts b ≡ concerns p b (log h) e.tx e.act
+  pub tables : (table : List ℕ) → has_table prepared.tables table ≡ touches_behind (log h) e.tx e.act table
 
 -- ---- the recovery log
 
@@ -114,47 +99,47 @@ pub record IsOpenSession (sessions : List ℕ) (s : ℕ) : Type 0 where
   pub is_open : list_any (λ n. n == s) sessions ≡ true
 
 -- the session is open
-abbrev pub has_session : {S : Type 0} → BookState S → ℕ → Bool
+abbrev pub has_session : BookState → ℕ → Bool
 has_session b s = list_any (λ n. n == s) b.sessions
 
--- no session more can be opened: the limit of open sessions is reached, or all numbers were given
-abbrev pub has_no_number : {S : Type 0} → BookState S → Bool
+-- no session more can be opened
+abbrev pub has_no_number : BookState → Bool
 has_no_number b = nat_le SESSION_LIMIT (length b.sessions) || nat_le SESSION_NUMBER_LIMIT b.greatest
 
 -- session numbers were given up to the greatest that there may be, which is n
-pub record HasGivenAll {S : Type 0} (b : BookState S) (n : ℕ) : Type 0 where
+pub record HasGivenAll (b : BookState) (n : ℕ) : Type 0 where
   pub last : SESSION_NUMBER_LIMIT ≤ b.greatest
   pub number : n ≡ SESSION_NUMBER_LIMIT
 
 -- a session with the next number is open
-abbrev pub with_session : {S : Type 0} → BookState S → BookState S
+abbrev pub with_session : BookState → BookState
 with_session b = record b { sessions = b.sessions ++ (b.greatest + 1) ∷ []; greatest = b.greatest + 1 }
 
 -- the session is closed
-abbrev pub without_session : {S : Type 0} → BookState S → ℕ → BookState S
+abbrev pub without_session : BookState → ℕ → BookState
 without_session b s = record b { sessions = filter (λ n. not (n == s)) b.sessions }
 
--- whether the transaction that this entry began is open, and its session isn't
-abbrev pub is_orphan_of : {S : Type 0} → BookState S → ℕ → Option Entry → Bool
+-- the transaction that this entry began is open, and its session isn't
+abbrev pub is_orphan_of : BookState → ℕ → Option Entry → Bool
 is_orphan_of b tx None = false
 is_orphan_of b tx (Some begin) = tx_of (log b.history) begin.session == tx && not (has_session b begin.session)
 
--- whether the transaction is open, and its session isn't
-abbrev pub is_orphan : {S : Type 0} → BookState S → ℕ → Bool
+-- an open transaction whose session isn't open
+abbrev pub is_orphan : BookState → ℕ → Bool
 is_orphan b tx = is_orphan_of b tx (entry_numbered (log b.history) tx)
 
 -- the entry is of a session that is open, or ends an orphan
-abbrev pub IsOfKnown : {S : Type 0} → BookState S → Entry → Type 0
+abbrev pub IsOfKnown : BookState → Entry → Type 0
 IsOfKnown b e = (has_session b e.session ≡ true) ⊎ ((e.session ≡ 0) × (is_orphan b e.tx ≡ true))
 
 -- the entry's session was given, also where it isn't open any more; or the entry ends an orphan
-abbrev pub IsOfGiven : {S : Type 0} → BookState S → Entry → Type 0
+abbrev pub IsOfGiven : BookState → Entry → Type 0
 IsOfGiven b e = ((0 < e.session) × (e.session ≤ b.greatest)) ⊎ ((e.session ≡ 0) × (is_orphan b e.tx ≡ true))
 
 -- ---- backends
 
--- whether backend k is enabled and hosts each of the tables
-abbrev pub is_candidate : {S : Type 0} → BookState S → List (List ℕ) → ℕ → Bool
+-- whether backend b is enabled and hosts each of the tables
+abbrev pub is_candidate : BookState → List (List ℕ) → ℕ → Bool
 is_candidate b tables k = is_enabled b.history k && hosts_all (placement_at b) k tables
 
 -- whether backend k is a target of the entry, by the history that ends in it
@@ -162,8 +147,7 @@ abbrev pub is_target_at : Placement → List Event → Option Entry → ℕ → 
 is_target_at p h None k = false
 is_target_at p h (Some e) k = is_enabled h k && concerns p k (log h) e.tx e.act
 
--- whether backend k is a target of the entry, by the book's history
-abbrev pub is_target : {S : Type 0} → BookState S → Option Entry → ℕ → Bool
+abbrev pub is_target : BookState → Option Entry → ℕ → Bool
 is_target b e k = is_target_at (placement_at b) b.history e k
 
 -- ---- reads
@@ -176,43 +160,43 @@ with_pending_read pending b = if slice_index pending b + 1 == 2 ^ 32 then pendin
 abbrev pub read_at : Balance → ℕ → Balance
 read_at balance b = record balance { standing = record (picked balance.policy balance.standing b) { pending = with_pending_read balance.standing.pending b } }
 
--- the balancer picks backend b of the candidates, and a read begins there
-pub record PicksOf {S : Type 0} (old new : BookState S) (candidates b : ℕ) : Type 0 where
+-- the balancer picks b of the candidates, and a read begins there
+pub record PicksOf (old new : BookState) (candidates b : ℕ) : Type 0 where
   pub first : IsFirst (is_ahead old.balance.policy old.balance.weights old.balance.standing) candidates b
   pub stands : new ≡ record old { balance = read_at old.balance b }
 
 -- ---- why an event can't come
 
 -- entry n is open
-pub record IsInProgress {S : Type 0} (b : BookState S) (n : ℕ) : Type 0 where
+pub record IsInProgress (b : BookState) (n : ℕ) : Type 0 where
   pub open_now : is_free b.history ≡ false
   pub number : n ≡ length (log b.history)
 
 -- no entry is open, and no enabled backend serves the act, which needs one
-pub record HasNoBackend {S : Type 0} (b : BookState S) (a : Act) : Type 0 where
+pub record HasNoBackend (b : BookState) (a : Act) : Type 0 where
   pub is_free : is_free b.history ≡ true
   pub unserved : HasNoServer (placement_at b) b.history (request_of a)
 
 -- the act could be scheduled but for the room in the history of n events
-pub record LacksRoom {S : Type 0} (b : BookState S) (a : Act) (n : ℕ) : Type 0 where
+pub record LacksRoom (b : BookState) (a : Act) (n : ℕ) : Type 0 where
   pub is_free : is_free b.history ≡ true
   pub served : HasServer (placement_at b) b.history (request_of a)
   pub full : events_left b.history < 3
   pub events : n ≡ length b.history
 
 -- the history of n events has no room for one more
-pub record HasNoRoomForOne {S : Type 0} (b : BookState S) (n : ℕ) : Type 0 where
+pub record HasNoRoomForOne (b : BookState) (n : ℕ) : Type 0 where
   pub full : events_left b.history < 1
   pub events : n ≡ length b.history
 
 -- an entry of this act can be scheduled
-pub record CanSchedule {S : Type 0} (b : BookState S) (a : Act) : Type 0 where
+pub record CanSchedule (b : BookState) (a : Act) : Type 0 where
   pub is_free : is_free b.history ≡ true
   pub served : HasServer (placement_at b) b.history (request_of a)
   pub space : 3 ≤ events_left b.history
 
 -- whether an entry of this act can be scheduled, or the first reason against it
-abbrev pub Checks : {S T : Type 0} → BookState S → Act → Result T BookError → Type 0
+abbrev pub Checks : {T : Type 0} → BookState → Act → Result T BookError → Type 0
 Checks b a (Ok x) = CanSchedule b a
 Checks b a (Err (InProgress n)) = IsInProgress b n
 Checks b a (Err NoBackend) = HasNoBackend b a
@@ -221,7 +205,7 @@ Checks b a (Err LogFault) = ⊥
 Checks b a (Err NoMemory) = ⊥
 
 -- whether there is room for one more event, beside those kept for the end of an open entry
-abbrev pub HasRoom : {S T : Type 0} → BookState S → Result T BookError → Type 0
+abbrev pub HasRoom : {T : Type 0} → BookState → Result T BookError → Type 0
 HasRoom b (Ok x) = 0 < events_left b.history
 HasRoom b (Err (InProgress n)) = ⊥
 HasRoom b (Err NoBackend) = ⊥

@@ -26,8 +26,8 @@ abbrev pub hearing : Option SeatView → SeatView → SeatView
 hearing None v = v
 hearing (Some w) v = knows_counted v w
 
--- if the event is one more of a session that has an own pass, the pass has counted the event
-abbrev pub CanCount : {S : Type 0} → SeatedBook S → Option SeatView → Event → Type 0
+-- the event is counted, where it is one more of a session that has an own pass
+abbrev pub CanCount : SeatedBook → Option SeatView → Event → Type 0
 CanCount book own e = HasCountNotes (hearing own book.view).given book.state.history (hearing own book.view).count_notes e
 
 -- what the book knows after an event of the session, where one came

@@ -17,7 +17,7 @@ use Rattle.cj_book.specs.Starts.{greatest_session}
 -- what was found has the history's entries, open transactions, markers and greatest session number
 pub record IsRecovered (p : Placement) (h : List Event) (found : Recovered) : Type 0 where
   pub entries : found.entries.items ≡ log h
-  pub transactions : KeepsTransactions p (log h) found.transactions
+  pub transactions : KeepsTransactions p (log h) found.transactions.list
   pub marked : found.markers.items ≡ markers_of h
   pub greatest : found.greatest ≡ greatest_session (log h)
 

@@ -1,5 +1,5 @@
 -- What a book keeps of its history.
-use Rattle.std.specs.Prelude.{◌≡◌, ◌≢◌, ℕ, ◌+◌, ◌-◌, ◌*◌, ◌<◌, ◌≤◌, ◌==◌, Bool, true, List, length, map, All}
+use Rattle.std.specs.Prelude.{◌≡◌, ◌≢◌, ℕ, ◌+◌, ◌-◌, ◌*◌, ◌<◌, ◌≤◌, ◌==◌, true, List, length, map, All}
 use Rattle.std.specs.List.{list_any}
 use Rattle.cj_model.specs.declared.request.Entry.{Entry}
 use Rattle.cj_cluster.specs.declared.event.Event.{Event}
@@ -7,13 +7,10 @@ use Rattle.cj_cluster.specs.History.Histories.{log, ended_count, open_entry_of, 
 use Rattle.cj_cluster.specs.History.Legality.{IsLegal}
 use Rattle.cj_model.specs.Cluster.Masks.{in_mask}
 use Rattle.cj_model.specs.Cluster.Placements.{Placement, wrote_at}
-use Rattle.cj_log.specs.declared.item.LogItem.{LogItem}
 use Rattle.cj_log.specs.declared.item.LogMarker.{LogMarker}
-use Rattle.cj_recovery.specs.Openings.{items_of}
 use Rattle.cj_place.specs.Layouts.{Layout, placement_of}
-use Rattle.cj_book.specs.Books.{is_target_at, last_write_failed, markers_of, IsOpenSession}
+use Rattle.cj_book.specs.Books.{is_target_at, markers_of, IsOpenSession}
 use Rattle.cj_book.specs.Lists.{by_number, session_number, tx_number}
-use Rattle.cj_book.specs.Seated.{HasCountedLogFaults}
 use Rattle.cj_book.specs.declared.sessions.BookSession.{BookSession}
 use Rattle.cj_book.specs.declared.transactions.OpenTransaction.{OpenTransaction}
 use Rattle.cj_model.specs.declared.limits.TheConstants.{BACKEND_LIMIT, EVENT_LIMIT, SESSION_LIMIT, SESSION_NUMBER_LIMIT}
@@ -68,15 +65,11 @@ pub record KeepsRoom (ss : List BookSession) (capacity : ℕ) : Type 0 where
   pub rises : Rises (by_number session_number) ss
   pub room : SESSION_LIMIT ≤ capacity
 
--- the invariant of a book: how its fields follow from the history, and the log's items with them
-pub record IsKeptBook (tells : Bool) (layout : Layout) (h : List Event) (kept : List Entry) (ended on greatest targets : ℕ) (ss : List BookSession) (ts : List OpenTransaction) (marks : List LogMarker) (given : List ℕ) (items : List LogItem) (torn : Bool) (before now : ℕ) : Type 0 where
+-- what a book keeps beside what contracts see of it
+pub record IsKeptBook (layout : Layout) (h : List Event) (kept : List Entry) (ended on greatest targets : ℕ) (ss : List BookSession) (ts : List OpenTransaction) (marks : List LogMarker) (given : List ℕ) : Type 0 where
   pub history : KeepsEntries (length layout.names) h kept ended on
   pub follows : Follows layout h greatest targets ss ts
   pub marked : marks ≡ markers_of h
   pub within : greatest ≤ SESSION_NUMBER_LIMIT
   -- each session that has an own pass is open
   pub owned : All (IsOpenSession (map session_number ss)) given
-  pub logged : tells ≡ true → items_of h ≡ items
-  -- the gate after the items is torn only after a write that failed
-  pub gate : tells ≡ true → torn ≡ true → last_write_failed h ≡ true
-  pub faults : HasCountedLogFaults h before now

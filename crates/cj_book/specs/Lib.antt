@@ -1,9 +1,11 @@
+pub mod BookLogs
 pub mod Books
 pub mod Counters
 pub mod Events
 pub mod Found
 pub mod Kept
 pub mod Lists
+pub mod Pendings
 pub mod Refusals
 pub mod Seated
 pub mod Starts

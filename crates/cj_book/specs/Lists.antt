@@ -80,20 +80,16 @@ transactions_after ts n hosts e (act.Drop table) = ts
 transactions_after ts n hosts e act.Commit = without tx_number e.tx ts
 transactions_after ts n hosts e act.Abort = without tx_number e.tx ts
 
--- the open transactions, with the one that entry n of the log begins, before the entry is scheduled
-abbrev pub transactions_begun : List OpenTransaction → ℕ → Entry → Act → List OpenTransaction
-transactions_begun ts n e act.Begin = ts ++ new_tx n e.session ∷ []
-transactions_begun ts n e (act.Write w) = ts
-transactions_begun ts n e (act.Create c) = ts
-transactions_begun ts n e (act.Drop table) = ts
-transactions_begun ts n e act.Commit = ts
-transactions_begun ts n e act.Abort = ts
+-- the open transactions, and for how many more there is a place
+pub record TransactionList : Type 0 where
+  pub list : List OpenTransaction
+  pub places : ℕ
 
--- the open transactions after an entry, where the transaction that the entry begins was added before
-abbrev pub transactions_followed : List OpenTransaction → ℕ → Entry → Act → List OpenTransaction
-transactions_followed ts hosts e act.Begin = ts
-transactions_followed ts hosts e (act.Write w) = with_wrote e.tx hosts ts
-transactions_followed ts hosts e (act.Create c) = ts
-transactions_followed ts hosts e (act.Drop table) = ts
-transactions_followed ts hosts e act.Commit = without tx_number e.tx ts
-transactions_followed ts hosts e act.Abort = without tx_number e.tx ts
+-- there is a place for the transaction that the act begins
+abbrev pub HasPlace : Act → ℕ → Type 0
+HasPlace act.Begin places = 0 < places
+HasPlace (act.Write w) places = Unit {0}
+HasPlace (act.Create c) places = Unit {0}
+HasPlace (act.Drop table) places = Unit {0}
+HasPlace act.Commit places = Unit {0}
+HasPlace act.Abort places = Unit {0}

@@ -1,44 +1,31 @@
--- What contracts see of a book at its seat of the board, and what calls change of the seat.
-use Rattle.std.specs.Prelude.{◌≡◌, ◌⊎◌, ℕ, ◌+◌, ◌-◌, ◌^◌, ◌≤◌, List, length, All, Result, Ok, Err}
+-- What contracts see of a book at its seat.
+use Rattle.std.specs.Prelude.{◌≡◌, ℕ, ◌+◌, All, Result, Ok, Err}
 use Rattle.std.specs.declared.option.Option.{Option}
 use Rattle.std.specs.declared.option.Option.TheVariants.{None, Some}
 use Rattle.atomic_table.specs.Seated.{TableId}
 use Rattle.cj_cluster.specs.declared.event.Event.{Event}
 use Rattle.cj_board.specs.declared.view.SeatView.{SeatView}
-use Rattle.cj_board.specs.Counting.{log_failure_sessions}
 use Rattle.cj_board.specs.Steps.{HasPositionNotes, HasFaultTokens, HasCountNotes, after_append, after_count, after_join, after_learning, after_opening, after_split}
 use Rattle.cj_board.specs.Views.{next_session, own_pass_of, pass_of, pass_without_tokens}
 use Rattle.cj_book.specs.declared.error.BookError.{BookError}
 use Rattle.cj_book.specs.declared.error.BookError.TheVariants.{InProgress, NoBackend, HistoryFull, LogFault, NoMemory}
-use Rattle.cj_book.specs.declared.error.StartError.{StartError}
 use Rattle.cj_book.specs.Books.{BookState, IsOpenSession}
 
--- A book at its seat: its state, the seat's board, and what the seat knows. What the seat has seen is the history.
--- The number of faults is the one that the log's store had counted when the book was opened.
-pub record SeatedBook (S : Type 0) : Type 0 where
-  pub state : BookState S
+-- A book: what follows from its history, of which board its seat is, and what the seat knows, which has the history in front. Beside it, the event that comes once its item stands in the recovery log, where one is pending.
+pub record SeatedBook : Type 0 where
+  pub state : BookState
   pub board : TableId
   pub view : SeatView
-  pub faults_at_opening : ℕ
+  pub pending : Option Event
 
--- the book has the same seat, which knows the same
-abbrev pub HasSameSeat : {S : Type 0} → SeatedBook S → SeatedBook S → Type 0
-HasSameSeat old new = (new.board ≡ old.board) × (new.view ≡ old.view) × (new.faults_at_opening ≡ old.faults_at_opening)
-
--- The log's store failed at most as often as its count of faults rose from `before` to `now`.
--- Or the count is at its greatest value, which it can't leave.
-abbrev pub HasCountedLogFaults : List Event → ℕ → ℕ → Type 0
-HasCountedLogFaults h before now = (length (log_failure_sessions h) + before ≤ now) ⊎ (now ≡ 2 ^ 64 - 1)
-
--- the answer of `open`, without the seat
-abbrev pub opened_state : {S : Type 0} → Result (SeatedBook S) (StartError × S) → Result (BookState S) (StartError × S)
-opened_state (Ok book) = Ok book.state
-opened_state (Err e) = Err e
+-- the book stands at the same seat, and has heard and told nothing
+abbrev pub HasSameSeat : SeatedBook → SeatedBook → Type 0
+HasSameSeat old new = (new.board ≡ old.board) × (new.view ≡ old.view) × (new.pending ≡ old.pending)
 
 -- ---- events
 
--- if the event is one more of a session that has an own pass, the seat knows that the pass has counted the event
-abbrev pub IsCounted : {S : Type 0} → SeatedBook S → Event → Type 0
+-- where the event is one more of a session that has an own pass, that was counted
+abbrev pub IsCounted : SeatedBook → Event → Type 0
 IsCounted book e = HasCountNotes book.view.given book.state.history book.view.count_notes e
 
 -- what the seat must know before the event comes
@@ -69,11 +56,11 @@ view_after (Some e) v = after_append e v
 -- ---- own passes
 
 -- the next session of the book is the next of its board: each was opened with an own pass
-abbrev pub GivesOwnPassesOnly : {S : Type 0} → SeatedBook S → Type 0
+abbrev pub GivesOwnPassesOnly : SeatedBook → Type 0
 GivesOwnPassesOnly book = book.state.greatest + 1 ≡ next_session book.view
 
 -- each session that has an own pass is open, and none is the administrator's
-abbrev pub OwnersAreOpen : {S : Type 0} → SeatedBook S → Type 0
+abbrev pub OwnersAreOpen : SeatedBook → Type 0
 OwnersAreOpen book = All (IsOpenSession book.state.sessions) book.view.given
 
 -- what the book knows after it gave the next session an own pass, with a note of the pass's count

@@ -1,6 +1,6 @@
-//! How an entry ends, and which backends are enabled.
+//! How an entry ends, and which backends are enabled. None of these events comes while an entry or a marker is pending.
 
-ghost use Rattle.std.specs.Prelude.{◌≡◌, ◌+◌, ◌<◌, true, false, length, Contains};
+ghost use Rattle.std.specs.Prelude.{◌≡◌, ◌+◌, ◌<◌, None, true, false, length, Contains};
 ghost use Rattle.cj_cluster.specs.declared.event.Event.{Event};
 ghost use Rattle.cj_cluster.specs.History.Histories.{is_enabled, is_free, log};
 ghost use Rattle.cj_cluster.specs.History.Legality.{AreFitMasks};
@@ -15,22 +15,19 @@ use crate::book::Book;
 use crate::error::BookError;
 use cj_board::Board;
 use cj_cluster::Event;
-use cj_outside::Store;
 
-impl<S: Store> Book<S> {
-    /// Ends the open entry, and disables the targets that failed or ran out of memory.
-    ///
-    /// `failed` and `starved` are masks of targets. The seat must have a fault token of each failed backend.
-    /// Each backend that stays enabled must be noted at the end of the log. The call takes no memory and never fails.
+impl Book {
+    /// Ends the open entry. It takes no memory.
     pub fn end(&mut self, board: &Board, failed: u32, starved: u32)
         requires board { self.old.board ≡ board_id board.now }
+        requires pending { self.old.pending ≡ None }
         requires open { is_free self.old.state.history ≡ false }
         requires masks { AreFitMasks self.old.state.history failed starved }
         requires positions { HasPositionNotes self.old.state.history self.old.view.position_notes (Event.Ended failed starved) }
         requires faults { HasFaultTokens self.old.view.fault_tokens (Event.Ended failed starved) }
         ensures state { self.new.state ≡ with_event self.old.state (Event.Ended failed starved) }
         ensures board { self.new.board ≡ self.old.board }
-        ensures opening { self.new.faults_at_opening ≡ self.old.faults_at_opening }
+        ensures pending { self.new.pending ≡ self.old.pending }
         ensures seat { self.new.view ≡ after_append (Event.Ended failed starved) self.old.view }
         ensures still_gives { GivesOwnPassesOnly self.old → GivesOwnPassesOnly self.new }
     {
@@ -44,12 +41,13 @@ impl<S: Store> Book<S> {
     /// `HistoryFull`: no event more has room. An error leaves the book unchanged.
     pub fn disable(&mut self, board: &Board, b: u8) -> Result<(), BookError>
         requires board { self.old.board ≡ board_id board.now }
+        requires pending { self.old.pending ≡ None }
         requires is_free { is_free self.old.state.history ≡ true }
         requires below { b < length self.old.state.layout.names }
         requires is_enabled { is_enabled self.old.state.history b ≡ true }
         ensures state { AppendsEvent self.old.state (Event.Disabled b) result self.new.state }
         ensures board { self.new.board ≡ self.old.board }
-        ensures opening { self.new.faults_at_opening ≡ self.old.faults_at_opening }
+        ensures pending { self.new.pending ≡ self.old.pending }
         ensures seat { self.new.view ≡ view_after (event_at_ok (Event.Disabled b) result) self.old.view }
         ensures still_gives { GivesOwnPassesOnly self.old → GivesOwnPassesOnly self.new }
     {
@@ -64,13 +62,14 @@ impl<S: Store> Book<S> {
     /// `HistoryFull`: no event more has room. An error leaves the book unchanged.
     pub fn enable(&mut self, board: &Board, b: u8) -> Result<(), BookError>
         requires board { self.old.board ≡ board_id board.now }
+        requires pending { self.old.pending ≡ None }
         requires is_free { is_free self.old.state.history ≡ true }
         requires below { b < length self.old.state.layout.names }
         requires is_disabled { is_enabled self.old.state.history b ≡ false }
         requires position { Contains self.old.view.position_notes (b, length (log self.old.state.history)) }
         ensures state { AppendsEvent self.old.state (Event.Enabled b) result self.new.state }
         ensures board { self.new.board ≡ self.old.board }
-        ensures opening { self.new.faults_at_opening ≡ self.old.faults_at_opening }
+        ensures pending { self.new.pending ≡ self.old.pending }
         ensures seat { self.new.view ≡ view_after (event_at_ok (Event.Enabled b) result) self.old.view }
         ensures still_gives { GivesOwnPassesOnly self.old → GivesOwnPassesOnly self.new }
     {
@@ -91,10 +90,11 @@ impl<S: Store> Book<S> {
         b: u8,
     ) -> Result<(), BookError>
         requires board { self.old.board ≡ board_id board.now }
+        requires pending { self.old.pending ≡ None }
         requires fault { 0 < fault_tokens_of b self.old.view.fault_tokens }
         ensures state { AppendsEvent self.old.state (Event.ReadFailed session seq b) result self.new.state }
         ensures board { self.new.board ≡ self.old.board }
-        ensures opening { self.new.faults_at_opening ≡ self.old.faults_at_opening }
+        ensures pending { self.new.pending ≡ self.old.pending }
         ensures seat { self.new.view ≡ view_after (event_at_ok (Event.ReadFailed session seq b) result) self.old.view }
         ensures still_gives { GivesOwnPassesOnly self.old → GivesOwnPassesOnly self.new }
     {

@@ -13,11 +13,13 @@
 #![tactic(auto)]
 
 mod book;
+mod book_log;
 mod counter;
 mod end;
 mod error;
 mod marker;
 mod own_pass;
+mod pending;
 mod reading;
 mod recovered;
 mod schedule;
@@ -27,4 +29,6 @@ mod touching;
 mod transactions;
 
 pub use book::{Book, BookParts};
+pub use book_log::BookLog;
+pub use counter::Counter;
 pub use error::{BookError, OwnError, SessionsFull, StartError};

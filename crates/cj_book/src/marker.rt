@@ -1,25 +1,25 @@
 //! How a checkpoint is marked: in the log, and then in the history.
 
-ghost use Rattle.std.specs.Prelude.{◌≡◌, ◌≢◌, ◌⊎◌, Some, ◌<◌, true, false, [], length, IfOk, IfErr, OnOk, OnErr, IsErrOf};
+ghost use Rattle.std.specs.Prelude.{◌≡◌, ◌≢◌, None, Some, true, false, [], length, IfOk, OnOk, OnErr};
 ghost use Rattle.cj_cluster.specs.declared.event.Event.{Event};
-ghost use Rattle.cj_cluster.specs.History.Histories.{events_left, has_marker, is_free, log};
-ghost use Rattle.cj_log.specs.Logs.{IsBeforeOrAfter, LeavesItems, Refuses};
-ghost use Rattle.cj_recovery.specs.Openings.{items_of};
+ghost use Rattle.cj_cluster.specs.History.Histories.{has_marker, is_free, log};
+ghost use Rattle.cj_log.specs.Items.{CanAppend};
 ghost use Rattle.cj_recovery.specs.Openings as openings;
-ghost use Rattle.cj_outside.specs.Causes.{CountsFault};
-ghost use Rattle.cj_outside.specs.Stores.{LeavesOnly};
-ghost use Rattle.cj_board.specs.Seats.{board_id, history};
-ghost use Rattle.cj_book.specs.Books.{with_event, IsSameButLog};
-ghost use Rattle.cj_book.specs.Events.{MarksCheckpoint};
+ghost use Rattle.cj_board.specs.Seats.{board_id};
+ghost use Rattle.cj_book.specs.BookLogs.{LogFollows};
+ghost use Rattle.cj_book.specs.Events.{finished_as, marker_finished, BeginsMarker, MarksCheckpoint};
 ghost use Rattle.cj_book.specs.Seated.{event_or_fault, view_after, GivesOwnPassesOnly, IsCounted};
 
 use crate::book::Book;
+use crate::book_log::BookLog;
 use crate::error::BookError;
+use crate::pending::{self, Pending};
 use cj_board::Board;
 use cj_cluster::Event;
 use cj_log::{LogError, LogItem, LogMarker};
 use cj_model::Name;
 use cj_outside::Store;
+use std::mem;
 
 /// Returns a marker after the first `after` entries. It names the dump of backend `b`, where there is one.
 fn marker_of(after: u64, name: &Name, b: Option<u8>) -> LogMarker
@@ -32,61 +32,81 @@ fn marker_of(after: u64, name: &Name, b: Option<u8>) -> LogMarker
     }
 }
 
-impl<S: Store> Book<S> {
-    /// Marks a checkpoint while no entry is open, and returns the number of entries before it.
-    ///
-    /// The name must be new and not empty. `b` is the backend whose dump has the name, and may not be 255.
-    /// The marker is appended to the log first, and to the history after that.
-    /// `HistoryFull`: no event more has room. `NoMemory`: memory ran out. Both leave the history unchanged.
-    /// `LogFault`: the log's store failed. The history then has an event that tells of it, and no marker.
-    pub fn mark(&mut self, board: &Board, name: &Name, b: Option<u8>) -> Result<u64, BookError>
+impl Book {
+    /// Marks a checkpoint while no entry is open, and answers how many entries stand before it. It stands in the log before it
+    /// comes into the history.
+    pub fn mark<S: Store>(
+        &mut self,
+        recovery_log: &mut BookLog<S>,
+        board: &Board,
+        name: &Name,
+        b: Option<u8>,
+    ) -> Result<u64, BookError>
         requires board { self.old.board ≡ board_id board.now }
+        requires pending { self.old.pending ≡ None }
+        requires follows { LogFollows S.tells S.faults recovery_log.old self.old.state.history }
         requires is_free { is_free self.old.state.history ≡ true }
         requires fresh { has_marker self.old.state.history name.now ≡ false }
         requires named { name.now ≢ [] }
         requires backend { b ≢ Some 255 }
         requires counted { IsCounted self.old (Event.LogFailed 0 0) }
-        ensures state { MarksCheckpoint S.tells S.faults S.moment S.since S.may self.old.state name.now b result self.new.state }
+        ensures state { MarksCheckpoint S.tells S.faults S.moment S.since S.may self.old.state recovery_log.old.log name.now b result self.new.state recovery_log.new.log }
+        ensures follows { LogFollows S.tells S.faults recovery_log.new self.new.state.history }
         ensures board { self.new.board ≡ self.old.board }
-        ensures opening { self.new.faults_at_opening ≡ self.old.faults_at_opening }
+        ensures pending { self.new.pending ≡ self.old.pending }
+        ensures opening { recovery_log.new.faults_at_opening ≡ recovery_log.old.faults_at_opening }
         ensures seat { self.new.view ≡ view_after (event_or_fault (Event.Marker name.now b) (Event.LogFailed 0 0) result) self.old.view }
         ensures still_gives { GivesOwnPassesOnly self.old → GivesOwnPassesOnly self.new }
     {
-        self.legal();
-        self.check_room()?;
-        self.enter_marker(board, name, b)
+        recovery_log.legal();
+        let item = self.begin_marker(name, b)?;
+        let appended = recovery_log.append(item);
+        self.finish_marker(board, name, b, appended)
     }
 
-    /// Appends the marker of a checkpoint that can be marked to the log, and then to the history.
-    /// `NoMemory` leaves the history unchanged. After `LogFault` the history has an event that tells of the failure.
-    fn enter_marker(&mut self, board: &Board, name: &Name, b: Option<u8>) -> Result<u64, BookError>
-        requires board { self.old.board ≡ board_id board.now }
-        requires space { 0 < events_left self.old.state.history }
+    /// Begins a checkpoint's marker, which is then pending, and answers its item for the log. All memory is taken that its end needs
+    /// (`finish_marker`). Refused, the book is as it was.
+    pub fn begin_marker(&mut self, name: &Name, b: Option<u8>) -> Result<LogItem, BookError>
+        requires pending { self.old.pending ≡ None }
         requires is_free { is_free self.old.state.history ≡ true }
         requires fresh { has_marker self.old.state.history name.now ≡ false }
         requires named { name.now ≢ [] }
         requires backend { b ≢ Some 255 }
+        ensures begins { BeginsMarker self.old.state result }
+        ensures item { IfOk result (λ item. (item ≡ openings.marker_item (length (log self.old.state.history)) name.now b) × CanAppend item) }
+        ensures pending { OnOk result (self.new.pending ≡ Some (Event.Marker name.now b)) }
+        ensures state { self.new.state ≡ self.old.state }
+        ensures seat { (self.new.board ≡ self.old.board) × (self.new.view ≡ self.old.view) }
+        ensures err { OnErr result (self.new ≡ self.old) }
+    {
+        self.check_room()?;
+        let number = self.length();
+        self.markers.reserve(1)?;
+        self.pending = Some(Pending::Marker(marker_of(number, name, b)));
+        Ok(LogItem::Marker(marker_of(number, name, b)))
+    }
+
+    /// Ends what `begin_marker` began, once the log was asked to append the item. The marker comes, or the event of the log's fault.
+    /// Where the log wanted memory, none comes. It takes no memory.
+    pub fn finish_marker(
+        &mut self,
+        board: &Board,
+        name: &Name,
+        b: Option<u8>,
+        appended: Result<(), LogError>,
+    ) -> Result<u64, BookError>
+        requires board { self.old.board ≡ board_id board.now }
+        requires pending { self.old.pending ≡ Some (Event.Marker name.now b) }
         requires counted { IsCounted self.old (Event.LogFailed 0 0) }
-        ensures ok { OnOk result (IsSameButLog (with_event self.old.state (Event.Marker name.now b)) self.new.state) }
-        ensures number { IfOk result (λ n. n ≡ length (log self.new.state.history)) }
-        ensures want { IfErr result (λ error. (error ≡ BookError.LogFault) ⊎ (error ≡ BookError.NoMemory)) }
-        ensures log_fault { IsErrOf result BookError.LogFault → IsSameButLog (with_event self.old.state (Event.LogFailed 0 0)) self.new.state }
-        ensures same { OnErr result (¬ IsErrOf result BookError.LogFault → IsSameButLog self.old.state self.new.state) }
-        ensures cause { CountsFault (IsErrOf result BookError.LogFault) (S.faults self.old.state.recovery_log.store) (S.faults self.new.state.recovery_log.store) }
-        ensures memory { S.tells ≡ true → IsErrOf result BookError.NoMemory → self.new.state.recovery_log.torn ≡ true → self.old.state.recovery_log.torn ≡ true }
-        ensures any_moment { S.tells ≡ true → LeavesOnly S.moment S.since self.old.state.recovery_log.store self.new.state.recovery_log.store (IsBeforeOrAfter self.old.state.recovery_log (openings.marker_item (length (log self.old.state.history)) name.now b)) }
-        ensures refused { S.tells ≡ true → Refuses self.old.state.recovery_log (openings.marker_item (length (log self.old.state.history)) name.now b) self.new.state.recovery_log result }
-        ensures safe { S.tells ≡ true → OnOk result (LeavesItems (S.may self.new.state.recovery_log.store) (items_of self.new.state.history)) }
+        ensures answer { result ≡ finished_as appended (length (log self.old.state.history)) }
+        ensures state { self.new.state ≡ marker_finished self.old.state name.now b appended }
         ensures board { self.new.board ≡ self.old.board }
-        ensures opening { self.new.faults_at_opening ≡ self.old.faults_at_opening }
+        ensures pending { self.new.pending ≡ None }
         ensures seat { self.new.view ≡ view_after (event_or_fault (Event.Marker name.now b) (Event.LogFailed 0 0) result) self.old.view }
     {
-        self.recovery_log.legal();
         let number = self.length();
-        // Once the log has the item, nothing may fail any more: so all memory is taken before.
-        self.markers.reserve(1)?;
-        let item = LogItem::Marker(marker_of(number, name, b));
-        match self.recovery_log.append(item) {
+        let marker = pending::marker_of(mem::replace(&mut self.pending, None));
+        match appended {
             Ok(()) => {}
             Err(LogError::NoMemory) => return Err(BookError::NoMemory),
             Err(LogError::Failed) => {
@@ -101,7 +121,7 @@ impl<S: Store> Book<S> {
                 b,
             },
         );
-        self.markers.push_reserved(marker_of(number, name, b));
+        self.markers.push_reserved(marker);
         Ok(number)
     }
 }

@@ -1,6 +1,6 @@
 //! Passes at the book: how notes are exchanged, and sessions whose own pass counts their events.
 
-ghost use Rattle.std.specs.Prelude.{ℕ, ◌≡◌, ◌↔◌, ◌+◌, ◌<◌, ◌≤◌, true, Contains, IfOk, OnErr, OnOk, IsErrOf};
+ghost use Rattle.std.specs.Prelude.{ℕ, ◌≡◌, ◌↔◌, ◌+◌, ◌<◌, ◌≤◌, None, true, Contains, IfOk, OnErr, OnOk, IsErrOf};
 ghost use mathlib.Core.List.{IsPrefix};
 ghost use Rattle.cj_cluster.specs.declared.event.Event.{Event};
 ghost use Rattle.cj_cluster.specs.History.Histories.{is_free, log};
@@ -9,24 +9,22 @@ ghost use Rattle.cj_board.specs.Counting.{event_count_of};
 ghost use Rattle.cj_board.specs.Seats.{board_id, front, pass_board, pass_view, history};
 ghost use Rattle.cj_board.specs.Steps.{after_closing, after_join, after_learning, after_split};
 ghost use Rattle.cj_board.specs.Views.{own_pass_of, pass_of, pass_without_tokens};
+ghost use Rattle.cj_book.specs.BookLogs.{LogFollows};
 ghost use Rattle.cj_book.specs.Books.{with_session, without_session, HasGivenAll};
 ghost use Rattle.cj_book.specs.Events.{Schedules};
 ghost use Rattle.cj_book.specs.Seated.{count_after, event_or_fault, own_book_after, own_opened, own_pass_after, told_book, told_pass, GivesOwnPassesOnly};
 
 use crate::book::Book;
+use crate::book_log::BookLog;
 use crate::counter::Counter;
 use crate::error::{BookError, OwnError};
 use cj_board::{Board, Pass};
 use cj_model::{Entry, SESSION_NUMBER_LIMIT};
 use cj_outside::Store;
 
-impl<S: Store> Book<S> {
-    /// Opens a session of the next number, and returns the number with the session's own pass.
-    ///
-    /// The pass has seen the history and has counted nothing, and the book has a note of that count.
-    /// All sessions of the book so far must have been opened with own passes.
-    /// `SessionsFull`: all session numbers were given. `NoMemory`: many sessions are open, and memory ran out.
-    /// An error leaves the book unchanged.
+impl Book {
+    /// Opens a session of the next number with its own pass, which has seen the history and has counted nothing.
+    /// The book has a note of that count. It takes memory where many are open.
     pub fn open_own(&mut self, board: &Board) -> Result<(u64, Pass), OwnError>
         requires board { self.old.board ≡ board_id board.now }
         requires gives { GivesOwnPassesOnly self.old }
@@ -39,7 +37,7 @@ impl<S: Store> Book<S> {
         ensures full { (n : ℕ) → IsErrOf result (OwnError.SessionsFull n) ↔ HasGivenAll self.old.state n }
         ensures err { OnErr result (self.new ≡ self.old) }
         ensures board { self.new.board ≡ self.old.board }
-        ensures opening { self.new.faults_at_opening ≡ self.old.faults_at_opening }
+        ensures pending { self.new.pending ≡ self.old.pending }
         ensures still_gives { GivesOwnPassesOnly self.new }
     {
         if self.greatest >= SESSION_NUMBER_LIMIT {
@@ -53,19 +51,26 @@ impl<S: Store> Book<S> {
         Ok((session, p))
     }
 
-    /// Schedules an entry of the session of an own pass, and returns the entry's number.
-    ///
-    /// The pass counts the event that comes, which is the entry, or the log's failure after `LogFault`.
-    /// The pass has seen the whole history at the end, also after an error.
-    /// Errors and what they leave of the history are those of `schedule`.
-    pub fn schedule_own(&mut self, board: &Board, p: &mut Pass, e: Entry) -> Result<u64, BookError>
+    /// Schedules an entry of a session with an own pass, as `schedule` does. The pass counts the event that comes, and has
+    /// seen the history then.
+    pub fn schedule_own<S: Store>(
+        &mut self,
+        recovery_log: &mut BookLog<S>,
+        board: &Board,
+        p: &mut Pass,
+        e: Entry,
+    ) -> Result<u64, BookError>
         requires board { (self.old.board ≡ board_id board.now) × (pass_board p.old ≡ board_id board.now) }
+        requires pending { self.old.pending ≡ None }
+        requires follows { LogFollows S.tells S.faults recovery_log.old self.old.state.history }
         requires own { ((pass_view p.old).own_session ≡ e.session) × (0 < e.session) }
         requires fit { is_free self.old.state.history ≡ true → IsFitEntry (log self.old.state.history) e }
         requires gives { GivesOwnPassesOnly self.old }
-        ensures state { Schedules S.tells S.faults S.moment S.since S.may self.old.state e result self.new.state }
+        ensures state { Schedules S.tells S.faults S.moment S.since S.may self.old.state recovery_log.old.log e result self.new.state recovery_log.new.log }
+        ensures follows { LogFollows S.tells S.faults recovery_log.new self.new.state.history }
         ensures board { (self.new.board ≡ self.old.board) × (pass_board p.new ≡ pass_board p.old) }
-        ensures opening { self.new.faults_at_opening ≡ self.old.faults_at_opening }
+        ensures pending { self.new.pending ≡ self.old.pending }
+        ensures opening { recovery_log.new.faults_at_opening ≡ recovery_log.old.faults_at_opening }
         ensures seat { self.new.view ≡ own_book_after (event_or_fault (Event.Sched e) (Event.LogFailed e.session e.seq) result) (told_book self.old.view (pass_view p.old)) (told_pass self.old.view (pass_view p.old)) }
         ensures pass { pass_view p.new ≡ own_pass_after (event_or_fault (Event.Sched e) (Event.LogFailed e.session e.seq) result) (told_book self.old.view (pass_view p.old)) (told_pass self.old.view (pass_view p.old)) }
         ensures own { (pass_view p.new).own_session ≡ e.session }
@@ -80,7 +85,7 @@ impl<S: Store> Book<S> {
         self.tell(board, p);
         board.check_count(p);
         let mut counter = Counter::taken(board, p);
-        let result = self.schedule_counted(board, &mut counter, e);
+        let result = self.schedule_counted(recovery_log, board, &mut counter, e);
         counter.put_back(p);
         board.check_count(p);
         self.legal();
@@ -94,7 +99,7 @@ impl<S: Store> Book<S> {
         requires own { ((pass_view p).own_session ≡ session) × (0 < session) }
         ensures state { self.new.state ≡ without_session self.old.state session }
         ensures board { self.new.board ≡ self.old.board }
-        ensures opening { self.new.faults_at_opening ≡ self.old.faults_at_opening }
+        ensures pending { self.new.pending ≡ self.old.pending }
         ensures seat { self.new.view ≡ after_closing self.old.view (pass_view p) }
         ensures seen { IsPrefix (front p) self.old.state.history }
         ensures closed { ¬ Contains self.new.view.given session }
@@ -109,7 +114,7 @@ impl<S: Store> Book<S> {
     pub fn tell(&mut self, board: &Board, p: &mut Pass)
         requires board { (self.old.board ≡ board_id board.now) × (pass_board p.old ≡ board_id board.now) }
         ensures board { (self.new.board ≡ self.old.board) × (pass_board p.new ≡ pass_board p.old) }
-        ensures opening { self.new.faults_at_opening ≡ self.old.faults_at_opening }
+        ensures pending { self.new.pending ≡ self.old.pending }
         ensures state { self.new.state ≡ self.old.state }
         ensures book { self.new.view ≡ after_learning self.old.view (pass_without_tokens (pass_view p.old)) }
         ensures pass { pass_view p.new ≡ after_join (pass_view p.old) (pass_without_tokens self.new.view) }
@@ -126,7 +131,7 @@ impl<S: Store> Book<S> {
     pub fn learn(&mut self, board: &Board, p: &mut Pass)
         requires board { (self.old.board ≡ board_id board.now) × (pass_board p.old ≡ board_id board.now) }
         ensures board { (self.new.board ≡ self.old.board) × (pass_board p.new ≡ pass_board p.old) }
-        ensures opening { self.new.faults_at_opening ≡ self.old.faults_at_opening }
+        ensures pending { self.new.pending ≡ self.old.pending }
         ensures state { self.new.state ≡ self.old.state }
         ensures book { self.new.view ≡ after_learning self.old.view (pass_of (pass_view p.old)) }
         ensures pass { pass_view p.new ≡ after_split (pass_view p.old) }

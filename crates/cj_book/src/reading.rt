@@ -19,34 +19,13 @@ ghost use Rattle.cj_book.specs.Books.{placement_at, has_session, is_candidate, i
 
 use crate::book::Book;
 use crate::error::BookError;
+use crate::pending::Prepared;
 use crate::touching::touched_behind;
-use cj_cache::Selects;
 use cj_cluster::BoxedEntry;
-use cj_log::{LogItem, LogMarker};
-use cj_model::{
-    Act, Answer, BACKEND_LIMIT, EVENT_LIMIT, Entry, Name, NoMemory, Select, TableSet, has_bit,
-};
-use cj_outside::Store;
+use cj_log::LogMarker;
+use cj_model::{Act, Answer, BACKEND_LIMIT, EVENT_LIMIT, Entry, Name, NoMemory, Select, has_bit};
 use cj_place::Placement;
-use cj_recovery::entry_item;
 use cj_usage::written;
-
-/// What the cache must drop for an entry: the tables that it touches, and the kept statements that need one of them.
-#[derive(Drop)]
-pub struct Doomed {
-    pub tables: TableSet,
-    pub statements: Selects,
-}
-
-/// What scheduling an entry needs, with the memory for it.
-#[derive(Drop)]
-pub struct Prepared {
-    /// The mask of the backends that the entry concerns.
-    pub hosts: u32,
-    pub doomed: Doomed,
-    pub item: LogItem,
-    pub room: BoxedEntry,
-}
 
 fn needs_backend(act: &Act) -> bool
     ensures { result ≡ placements.needs_backend (request_of act.now) }
@@ -61,8 +40,8 @@ fn is_named(markers: &[LogMarker], name: &Name) -> bool
     markers.iter().any(|marker| name.is(&marker.name))
 }
 
-impl<S: Store> Book<S> {
-    /// Returns the placement: which backends host which tables.
+impl Book {
+    /// Which backends host which tables.
     pub fn placement(&self) -> &Placement
         ensures { result.now ≡ self.now.state.layout }
     {
@@ -311,25 +290,14 @@ impl<S: Store> Book<S> {
         self.cache.counts()
     }
 
-    /// Returns what the cache must drop if this entry comes next.
-    fn doomed(&self, e: &Entry) -> Result<Doomed, NoMemory>
-        ensures { IfOk result (books.IsDoomedBy self.now.state e.now) }
-    {
-        let tables = touched_behind(self, self.alloc, self.length(), e.tx, &e.act)?;
-        let statements = self.cache.doomed(&tables)?;
-        Ok(Doomed { tables, statements })
-    }
-
-    /// Takes the memory for an entry that may come next, and finds what it concerns and what the cache must drop.
-    /// `NoMemory` leaves the book unchanged.
+    /// Prepares an entry that may come next.
     pub(crate) fn prepare(&self, e: &Entry) -> Result<Prepared, NoMemory>
         requires { IsFitEntry (log self.now.state.history) e.now }
-        ensures { IfOk result (IsPrepared self.now.state e.now) }
+        ensures { IfOk result (IsPrepared (placement_at self.now.state) self.now.state.history e.now) }
     {
         Ok(Prepared {
             hosts: self.concerned(e),
-            doomed: self.doomed(e)?,
-            item: entry_item(self.alloc, self.length() + 1, e)?,
+            tables: touched_behind(self, self.alloc, self.length(), e.tx, &e.act)?,
             room: BoxedEntry::with_room(self.alloc)?,
         })
     }

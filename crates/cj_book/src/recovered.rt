@@ -48,14 +48,14 @@ impl Recovered {
 
     /// Adds the next entry of the log. An error leaves the entry out, and may leave its transaction in.
     fn add_entry(&mut self, placement: &Placement, boxed: BoxedEntry) -> Result<(), NoMemory>
-        requires { All (λ t. tx_number t < length self.old.entries.items + 1) self.old.transactions }
+        requires { All (λ t. tx_number t < length self.old.entries.items + 1) self.old.transactions.list }
         ensures { (h : List Event) → IsLegal (h ++ Sched boxed ∷ []) → IsRecovered (placement_of placement.now) h self.old → OnOk result (IsRecovered (placement_of placement.now) (h ++ Sched boxed ∷ []) self.new) }
     {
         let number = self.entries.len() as u64 + 1;
         let e = boxed.entry();
         let hosts = self.transactions.concerned(placement, e);
-        self.transactions.prepare(number, e)?;
-        self.transactions.follow(e, hosts);
+        self.transactions.reserve(&e.act)?;
+        self.transactions.follow(number, e, hosts);
         self.greatest = self.greatest.max(e.session);
         self.entries.push(boxed)?;
         Ok(())

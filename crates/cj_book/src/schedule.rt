@@ -1,29 +1,32 @@
 //! Scheduling: an entry is appended to the log, and then to the history.
 
-ghost use Rattle.std.specs.Prelude.{◌≡◌, ◌⊎◌, Some, ◌+◌, ◌<◌, true, [], ◌∷◌, ◌++◌, length, vec_capacity, IfOk, IfErr, OnOk, OnErr, IsErrOf};
+ghost use Rattle.std.specs.Prelude.{◌≡◌, None, Some, ◌+◌, ◌<◌, true, [], ◌∷◌, ◌++◌, length, vec_capacity, IfOk, OnOk, OnErr};
 ghost use Rattle.cj_cluster.specs.declared.event.Event.{Event};
 ghost use Rattle.cj_cluster.specs.History.Histories.{is_free, log};
 ghost use Rattle.cj_cluster.specs.History.Legality.{IsFitEntry, IsLegal};
-ghost use Rattle.cj_log.specs.Logs.{IsBeforeOrAfter, LeavesItems, Refuses};
-ghost use Rattle.cj_recovery.specs.Openings.{items_of};
-ghost use Rattle.cj_outside.specs.Causes.{CountsFault};
-ghost use Rattle.cj_outside.specs.Stores.{LeavesOnly};
+ghost use Rattle.cj_log.specs.Items.{CanAppend};
+ghost use Rattle.cj_recovery.specs.Openings.{entry_item};
 ghost use Rattle.cj_board.specs.Seats.{board_id, book_board, book_view, history};
 ghost use Rattle.cj_board.specs.Steps.{HasCountNotes};
-ghost use Rattle.cj_book.specs.Books.{with_entry, with_event, CanSchedule, IsOfGiven, IsOfKnown, IsPrepared, IsSameButLog};
+ghost use Rattle.cj_book.specs.BookLogs.{LogFollows};
+ghost use Rattle.cj_book.specs.Books.{IsOfGiven, IsOfKnown};
 ghost use Rattle.cj_book.specs.Counters.{book_after, hearing, own_view, pass_after, CanCount, IsOn};
-ghost use Rattle.cj_book.specs.Events.{Schedules};
+ghost use Rattle.cj_book.specs.Events.{entry_finished, finished_as, BeginsEntry, Schedules};
 ghost use Rattle.cj_book.specs.Seated.{event_or_fault, view_after, GivesOwnPassesOnly, IsCounted};
 
 use crate::book::Book;
+use crate::book_log::BookLog;
 use crate::counter::{Counter, announce};
 use crate::error::BookError;
-use crate::reading::Prepared;
+use crate::pending::{Pending, prepared_of};
 use cj_board::{Board, BookSeat};
 use cj_cluster::{BoxedEntry, Event};
-use cj_log::LogError;
+use cj_log::{LogError, LogItem};
 use cj_model::Entry;
 use cj_outside::Store;
+use cj_recovery::entry_item;
+use std::mem;
+use std::snapshot::Snapshot;
 
 /// Appends an entry to the board, and then to `entries`, which must have room for one more.
 fn put_entry(
@@ -52,101 +55,115 @@ fn put_entry(
     entries.push_reserved(boxed);
 }
 
-impl<S: Store> Book<S> {
-    /// Schedules an entry, which is then open, and returns its number.
-    ///
-    /// The entry is appended to the log first, and to the history after that.
+impl Book {
+    /// Schedules an entry, which is then open, and answers its number. It stands in the log before it comes into the history.
     /// The cache drops the answers whose queries need a table that the entry touches.
-    /// `InProgress`: another entry is open. `NoBackend`: no enabled backend serves the entry.
-    /// `HistoryFull`: the history has no room for the entry and its end. `NoMemory`: memory ran out.
-    /// `LogFault`: the log's store failed, and the history has an event that tells of it.
-    /// Other errors leave the history unchanged. Of the first three, the error is the first that applies.
-    pub fn schedule(&mut self, board: &Board, e: Entry) -> Result<u64, BookError>
+    ///
+    /// Where it is refused for several reasons, the error is the first of them in the order of the variants. Where the log's store
+    /// failed, the history has an event of that; else it is as it was.
+    pub fn schedule<S: Store>(
+        &mut self,
+        recovery_log: &mut BookLog<S>,
+        board: &Board,
+        e: Entry,
+    ) -> Result<u64, BookError>
         requires board { self.old.board ≡ board_id board.now }
+        requires pending { self.old.pending ≡ None }
+        requires follows { LogFollows S.tells S.faults recovery_log.old self.old.state.history }
         requires fit { is_free self.old.state.history ≡ true → IsFitEntry (log self.old.state.history) e }
         requires known { IsOfKnown self.old.state e }
         requires counted { IsCounted self.old (Event.Sched e) × IsCounted self.old (Event.LogFailed e.session e.seq) }
-        ensures state { Schedules S.tells S.faults S.moment S.since S.may self.old.state e result self.new.state }
+        ensures state { Schedules S.tells S.faults S.moment S.since S.may self.old.state recovery_log.old.log e result self.new.state recovery_log.new.log }
+        ensures follows { LogFollows S.tells S.faults recovery_log.new self.new.state.history }
         ensures board { self.new.board ≡ self.old.board }
-        ensures opening { self.new.faults_at_opening ≡ self.old.faults_at_opening }
+        ensures pending { self.new.pending ≡ self.old.pending }
+        ensures opening { recovery_log.new.faults_at_opening ≡ recovery_log.old.faults_at_opening }
         ensures seat { self.new.view ≡ view_after (event_or_fault (Event.Sched e) (Event.LogFailed e.session e.seq) result) self.old.view }
         ensures still_gives { GivesOwnPassesOnly self.old → GivesOwnPassesOnly self.new }
     {
         self.legal();
-        self.schedule_counted(board, &mut Counter::Nobody, e)
+        self.schedule_counted(recovery_log, board, &mut Counter::Nobody, e)
     }
 
-    /// Schedules an entry, whose session may have an own pass, and returns the entry's number.
-    /// The pass counts the event that comes. Errors and what they leave are those of `schedule`.
-    pub(crate) fn schedule_counted(
+    /// The same, where the session may have an own pass, which counts the event that comes.
+    pub(crate) fn schedule_counted<S: Store>(
         &mut self,
+        recovery_log: &mut BookLog<S>,
         board: &Board,
         counter: &mut Counter,
         e: Entry,
     ) -> Result<u64, BookError>
         requires board { self.old.board ≡ board_id board.now }
+        requires pending { self.old.pending ≡ None }
+        requires follows { LogFollows S.tells S.faults recovery_log.old self.old.state.history }
         requires on { IsOn (board_id board.now) counter.old }
         requires fit { is_free self.old.state.history ≡ true → IsFitEntry (log self.old.state.history) e }
         requires given { IsOfGiven self.old.state e }
         requires counted { CanCount self.old (own_view counter.old) (Event.Sched e) × CanCount self.old (own_view counter.old) (Event.LogFailed e.session e.seq) }
-        ensures state { Schedules S.tells S.faults S.moment S.since S.may self.old.state e result self.new.state }
+        ensures state { Schedules S.tells S.faults S.moment S.since S.may self.old.state recovery_log.old.log e result self.new.state recovery_log.new.log }
+        ensures follows { LogFollows S.tells S.faults recovery_log.new self.new.state.history }
         ensures board { self.new.board ≡ self.old.board }
-        ensures opening { self.new.faults_at_opening ≡ self.old.faults_at_opening }
+        ensures pending { self.new.pending ≡ self.old.pending }
+        ensures opening { recovery_log.new.faults_at_opening ≡ recovery_log.old.faults_at_opening }
         ensures seat { self.new.view ≡ book_after (event_or_fault (Event.Sched e) (Event.LogFailed e.session e.seq) result) (own_view counter.old) self.old.view }
         ensures on { IsOn (board_id board.now) counter.new }
         ensures own { own_view counter.new ≡ pass_after (event_or_fault (Event.Sched e) (Event.LogFailed e.session e.seq) result) (own_view counter.old) self.old.view }
     {
-        self.legal();
-        self.check_schedule(&e.act)?;
-        let prepared = self.prepare(&e)?;
-        self.enter(board, counter, e, prepared)
+        recovery_log.legal();
+        let item = self.begin_entry(&e)?;
+        let appended = recovery_log.append(item);
+        self.finish_entry(board, counter, e, appended)
     }
 
-    /// Appends an entry that can be scheduled to the log, and then to the history.
-    /// `NoMemory` leaves the history unchanged. After `LogFault` the history has an event that tells of the failure.
-    fn enter(
+    /// Begins an entry, which is then pending, and answers its item for the log. All memory is taken that its end needs
+    /// (`finish_entry`). Refused, the book is as it was.
+    pub fn begin_entry(&mut self, e: &Entry) -> Result<LogItem, BookError>
+        requires pending { self.old.pending ≡ None }
+        requires fit { is_free self.old.state.history ≡ true → IsFitEntry (log self.old.state.history) e.now }
+        requires given { IsOfGiven self.old.state e.now }
+        ensures begins { BeginsEntry self.old.state e.now.act result }
+        ensures item { IfOk result (λ item. (item ≡ entry_item (length (log self.old.state.history) + 1) e.now) × CanAppend item) }
+        ensures pending { OnOk result (self.new.pending ≡ Some (Event.Sched e.now)) }
+        ensures state { self.new.state ≡ self.old.state }
+        ensures seat { (self.new.board ≡ self.old.board) × (self.new.view ≡ self.old.view) }
+        ensures err { OnErr result (self.new ≡ self.old) }
+    {
+        self.check_schedule(&e.act)?;
+        let item = entry_item(self.alloc, self.length() + 1, e)?;
+        let prepared = self.prepare(e)?;
+        self.entries.reserve(1)?;
+        self.transactions.reserve(&e.act)?;
+        self.pending = Some(Pending::Entry(Snapshot::of(e), prepared));
+        Ok(item)
+    }
+
+    /// Ends what `begin_entry` began, once the log was asked to append the item. The entry comes, and is open. Or the event of the
+    /// log's fault comes. Where the log wanted memory, none comes. It takes no memory.
+    pub fn finish_entry(
         &mut self,
         board: &Board,
         counter: &mut Counter,
         e: Entry,
-        prepared: Prepared,
+        appended: Result<(), LogError>,
     ) -> Result<u64, BookError>
         requires board { self.old.board ≡ board_id board.now }
         requires on { IsOn (board_id board.now) counter.old }
-        requires can { CanSchedule self.old.state e.act }
-        requires fit { IsFitEntry (log self.old.state.history) e }
-        requires given { IsOfGiven self.old.state e }
+        requires pending { self.old.pending ≡ Some (Event.Sched e) }
         requires counted { CanCount self.old (own_view counter.old) (Event.Sched e) × CanCount self.old (own_view counter.old) (Event.LogFailed e.session e.seq) }
-        requires prepared { IsPrepared self.old.state e prepared }
-        ensures ok { OnOk result (IsSameButLog (with_entry self.old.state e) self.new.state) }
-        ensures number { IfOk result (λ n. n ≡ length (log self.new.state.history)) }
-        ensures want { IfErr result (λ error. (error ≡ BookError.LogFault) ⊎ (error ≡ BookError.NoMemory)) }
-        ensures log_fault { IsErrOf result BookError.LogFault → IsSameButLog (with_event self.old.state (Event.LogFailed e.session e.seq)) self.new.state }
-        ensures same { OnErr result (¬ IsErrOf result BookError.LogFault → IsSameButLog self.old.state self.new.state) }
-        ensures cause { CountsFault (IsErrOf result BookError.LogFault) (S.faults self.old.state.recovery_log.store) (S.faults self.new.state.recovery_log.store) }
-        ensures memory { S.tells ≡ true → IsErrOf result BookError.NoMemory → self.new.state.recovery_log.torn ≡ true → self.old.state.recovery_log.torn ≡ true }
-        ensures any_moment { S.tells ≡ true → LeavesOnly S.moment S.since self.old.state.recovery_log.store self.new.state.recovery_log.store (IsBeforeOrAfter self.old.state.recovery_log prepared.item) }
-        ensures refused { S.tells ≡ true → Refuses self.old.state.recovery_log prepared.item self.new.state.recovery_log result }
-        ensures safe { S.tells ≡ true → OnOk result (LeavesItems (S.may self.new.state.recovery_log.store) (items_of self.new.state.history)) }
+        ensures answer { result ≡ finished_as appended (length (log self.old.state.history) + 1) }
+        ensures state { self.new.state ≡ entry_finished self.old.state e appended }
         ensures board { self.new.board ≡ self.old.board }
-        ensures opening { self.new.faults_at_opening ≡ self.old.faults_at_opening }
+        ensures pending { self.new.pending ≡ None }
         ensures seat { self.new.view ≡ book_after (event_or_fault (Event.Sched e) (Event.LogFailed e.session e.seq) result) (own_view counter.old) self.old.view }
         ensures on { IsOn (board_id board.now) counter.new }
         ensures own { own_view counter.new ≡ pass_after (event_or_fault (Event.Sched e) (Event.LogFailed e.session e.seq) result) (own_view counter.old) self.old.view }
     {
-        self.recovery_log.legal();
         let number = self.length() + 1;
-        // Once the log has the item, nothing may fail any more: so all memory is taken before.
-        self.entries.reserve(1)?;
-        self.transactions.prepare(number, &e)?;
-        match self.recovery_log.append(prepared.item) {
+        let prepared = prepared_of(mem::replace(&mut self.pending, None));
+        match appended {
             Ok(()) => {}
-            Err(LogError::NoMemory) => {
-                self.transactions.end(number);
-                return Err(BookError::NoMemory);
-            }
+            Err(LogError::NoMemory) => return Err(BookError::NoMemory),
             Err(LogError::Failed) => {
-                self.transactions.end(number);
                 let failed = Event::LogFailed {
                     session: e.session,
                     seq: e.seq,
@@ -155,10 +172,9 @@ impl<S: Store> Book<S> {
                 return Err(BookError::LogFault);
             }
         }
-        self.transactions.follow(&e, prepared.hosts);
+        self.transactions.follow(number, &e, prepared.hosts);
         self.sessions.follow(number, &e);
-        self.cache
-            .drop_tables(&prepared.doomed.tables, &prepared.doomed.statements);
+        self.cache.drop_needing(&prepared.tables);
         self.targets = self.enabled & prepared.hosts;
         put_entry(
             &mut self.entries,

@@ -14,7 +14,6 @@ use crate::error::SessionsFull;
 use crate::touching::is_touched_behind;
 use cj_balance::Balancer;
 use cj_model::{Answer, BACKEND_LIMIT, NoMemory, SESSION_LIMIT, SESSION_NUMBER_LIMIT, Select};
-use cj_outside::Store;
 
 /// Counts one more pending read at backend `b`, up to the greatest `u32`.
 fn begin_read(balancer: &mut Balancer, b: u8)
@@ -27,10 +26,8 @@ fn begin_read(balancer: &mut Balancer, b: u8)
     }
 }
 
-impl<S: Store> Book<S> {
-    /// Opens a session of the next number without an own pass, and returns the number. The call takes no memory.
-    /// `SessionsFull`: `SESSION_LIMIT` sessions are open, or all numbers were given.
-    /// An error leaves the book unchanged.
+impl Book {
+    /// Opens a session of the next number. It takes no memory.
     pub fn open_session(&mut self) -> Result<u64, SessionsFull>
         ensures ok { OnOk result (self.new.state ≡ with_session self.old.state) }
         ensures number { IfOk result (λ n. n ≡ self.old.state.greatest + 1) }

@@ -11,7 +11,6 @@ ghost use Rattle.cj_book.specs.Touching.{has_table, is_written_in};
 
 use crate::book::Book;
 use cj_model::{Act, Entry, Name, NoMemory, Select, TableSet};
-use cj_outside::Store;
 use cj_usage::{lone, written};
 use std::alloc::Global;
 
@@ -39,14 +38,8 @@ fn add_written(tables: &mut TableSet, entry: Option<&Entry>, tx: u64) -> Result<
     Ok(())
 }
 
-/// Returns the tables that transaction `tx` writes in the first `end` entries of the log.
-/// The search starts after the BEGIN, whose entry has the transaction's number.
-fn written_in<S: Store>(
-    book: &Book<S>,
-    alloc: Global,
-    end: u64,
-    tx: u64,
-) -> Result<TableSet, NoMemory>
+/// The tables that a transaction writes in the entries up to `end`. They stand behind its BEGIN, whose number it has.
+fn written_in(book: &Book, alloc: Global, end: u64, tx: u64) -> Result<TableSet, NoMemory>
     requires { end ≤ length (log book.now.state.history) }
     ensures { IfOk result (λ set. (table : List ℕ) → has_table set table ≡ has_written table tx (take end (log book.now.state.history))) }
 {
@@ -58,10 +51,9 @@ fn written_in<S: Store>(
     Ok(tables)
 }
 
-/// Returns the tables that an act touches after the first `end` entries of the log.
-/// `tx` is the act's transaction, or 0. A write in a transaction touches nothing, and its COMMIT all that it wrote.
-pub fn touched_behind<S: Store>(
-    book: &Book<S>,
+/// The tables that an act of a transaction, 0 for none, touches behind the entries up to `end`.
+pub fn touched_behind(
+    book: &Book,
     alloc: Global,
     end: u64,
     tx: u64,
@@ -80,13 +72,8 @@ pub fn touched_behind<S: Store>(
     }
 }
 
-/// Returns whether entry `n + 1` of the log touches a table that the query needs.
-fn touches_query<S: Store>(
-    book: &Book<S>,
-    alloc: Global,
-    n: u64,
-    select: &Select,
-) -> Result<bool, NoMemory>
+/// Whether entry `n + 1` of the log touches a table that the query needs.
+fn touches_query(book: &Book, alloc: Global, n: u64, select: &Select) -> Result<bool, NoMemory>
     requires { n < length (log book.now.state.history) }
     ensures { IfOk result (λ touches. touches ≡ freshness.touches_query (log book.now.state.history) n select.now) }
 {
@@ -105,9 +92,9 @@ fn touches_query<S: Store>(
     }
 }
 
-/// Returns whether an entry after the first `at` entries of the log touches a table that the query needs.
-pub fn is_touched_behind<S: Store>(
-    book: &Book<S>,
+/// Whether an entry behind a position of the log touches a table that the query needs.
+pub fn is_touched_behind(
+    book: &Book,
     alloc: Global,
     at: u64,
     select: &Select,

@@ -1,13 +1,13 @@
 //! The list of open transactions, and which backends each of them wrote at.
 
-ghost use Rattle.std.specs.Prelude.{◌≡◌, ◌<◌, ℕ, List, [], ◌∷◌, ◌++◌, All, MatchOption, None, OnOk, OnErr};
+ghost use Rattle.std.specs.Prelude.{◌≡◌, ◌<◌, ℕ, List, [], ◌∷◌, ◌++◌, All, MatchOption, None, OnOk};
 ghost use Rattle.cj_model.specs.declared.request.Entry.{Entry};
 ghost use Rattle.cj_model.specs.Cluster.Masks.{in_mask};
 ghost use Rattle.cj_model.specs.Cluster.Placements.{concerns};
 ghost use Rattle.cj_cluster.specs.History.Legality.{IsFitEntry};
 ghost use Rattle.cj_place.specs.Layouts.{placement_of};
 ghost use Rattle.cj_book.specs.Kept.{KeepsTransactions};
-ghost use Rattle.cj_book.specs.Lists.{IsIndexOf, new_tx, numbered, tx_number, with_wrote, without, wrote_of};
+ghost use Rattle.cj_book.specs.Lists.{HasPlace, IsIndexOf, new_tx, numbered, tx_number, with_wrote, without, wrote_of};
 ghost use Rattle.cj_book.specs.Lists as lists;
 
 use cj_model::{Act, Entry, NoMemory};
@@ -33,14 +33,13 @@ pub struct OpenTransactions {
 }
 
 impl Model for OpenTransactions {
-    ghost use Rattle.std.specs.Prelude.{List};
+    ghost use Rattle.std.specs.Prelude.{◌-◌, length, vec_capacity};
     ghost use Rattle.cj_model.specs.Database.Tables.{Rises};
-    ghost use Rattle.cj_book.specs.declared.transactions.OpenTransaction.{OpenTransaction};
-    ghost use Rattle.cj_book.specs.Lists.{by_number, tx_number};
+    ghost use Rattle.cj_book.specs.Lists.{by_number, tx_number, TransactionList};
 
-    ghost Value = { List OpenTransaction };
+    ghost Value = { TransactionList };
 
-    ghost view = { λ transactions. transactions.open.items };
+    ghost view = { λ transactions. record { list = transactions.open.items; places = vec_capacity transactions.open - length transactions.open.items } };
 
     ghost invariant = { λ transactions. Rises (by_number tx_number) transactions.open.items };
 }
@@ -48,7 +47,7 @@ impl Model for OpenTransactions {
 impl OpenTransactions {
     /// Returns an empty list, which takes no memory.
     pub fn new(alloc: Global) -> Self
-        ensures { result ≡ [] }
+        ensures { result.list ≡ [] }
     {
         OpenTransactions {
             open: Vec::new(alloc),
@@ -56,7 +55,7 @@ impl OpenTransactions {
     }
 
     fn place_of(&self, number: u64) -> Option<usize>
-        ensures { MatchOption result (numbered tx_number self.now number ≡ None) (IsIndexOf tx_number self.now number) }
+        ensures { MatchOption result (numbered tx_number self.now.list number ≡ None) (IsIndexOf tx_number self.now.list number) }
     {
         match self.open.binary_search_by_key(&number, |t| t.number) {
             Ok(place) => Some(place),
@@ -66,7 +65,7 @@ impl OpenTransactions {
 
     /// Returns the open transaction of a number. None if no open transaction has the number.
     pub fn find(&self, number: u64) -> Option<OpenTransaction>
-        ensures { result ≡ numbered tx_number self.now number }
+        ensures { result ≡ numbered tx_number self.now.list number }
     {
         match self.place_of(number) {
             Some(place) => Some(self.open[place]),
@@ -76,7 +75,7 @@ impl OpenTransactions {
 
     /// Returns the mask of the backends at which the open transaction of a number wrote. 0 if there is none.
     pub fn wrote(&self, number: u64) -> u32
-        ensures { result ≡ wrote_of (numbered tx_number self.now number) }
+        ensures { result ≡ wrote_of (numbered tx_number self.now.list number) }
     {
         match self.find(number) {
             Some(transaction) => transaction.wrote,
@@ -84,30 +83,43 @@ impl OpenTransactions {
         }
     }
 
-    fn begin(&mut self, number: u64, session: u64) -> Result<(), NoMemory>
-        requires { All (λ t. tx_number t < number) self.old }
-        ensures ok { OnOk result (self.new ≡ self.old ++ new_tx number session ∷ []) }
-        ensures err { OnErr result (self.new ≡ self.old) }
+    /// Makes a place for the transaction that an act begins. Only a BEGIN takes memory.
+    pub fn reserve(&mut self, act: &Act) -> Result<(), NoMemory>
+        ensures list { self.new.list ≡ self.old.list }
+        ensures place { OnOk result (HasPlace act.now self.new.places) }
     {
-        self.open.push(OpenTransaction {
+        match act {
+            Act::Begin => {
+                self.open.reserve(1)?;
+                Ok(())
+            }
+            Act::Write(_) | Act::Create(_) | Act::Drop(_) | Act::Commit | Act::Abort => Ok(()),
+        }
+    }
+
+    fn begin(&mut self, number: u64, session: u64)
+        requires above { All (λ t. tx_number t < number) self.old.list }
+        requires place { 0 < self.old.places }
+        ensures { self.new.list ≡ self.old.list ++ new_tx number session ∷ [] }
+    {
+        self.open.push_reserved(OpenTransaction {
             number,
             session,
             wrote: 0,
-        })?;
-        Ok(())
+        });
     }
 
     fn add_hosts(&mut self, number: u64, hosts: u32)
-        ensures { self.new ≡ with_wrote number hosts self.old }
+        ensures { self.new.list ≡ with_wrote number hosts self.old.list }
     {
         if let Some(place) = self.place_of(number) {
             self.open[place].wrote |= hosts;
         }
     }
 
-    /// Removes the transaction of a number. Nothing changes if no open transaction has the number.
-    pub fn end(&mut self, number: u64)
-        ensures { self.new ≡ without tx_number number self.old }
+    /// Lets the transaction of a number go.
+    fn end(&mut self, number: u64)
+        ensures { self.new.list ≡ without tx_number number self.old.list }
     {
         if let Some(place) = self.place_of(number) {
             self.open.remove(place);
@@ -117,7 +129,7 @@ impl OpenTransactions {
     /// Returns the mask of the backends that an entry concerns.
     /// The entry must be one that may follow the entries that opened these transactions.
     pub fn concerned(&self, placement: &Placement, e: &Entry) -> u32
-        ensures { (entries : List Entry) → KeepsTransactions (placement_of placement.now) entries self.now → IsFitEntry entries e.now
+        ensures { (entries : List Entry) → KeepsTransactions (placement_of placement.now) entries self.now.list → IsFitEntry entries e.now
             → (b : ℕ) → in_mask result b ≡ concerns (placement_of placement.now) b entries e.now.tx e.now.act }
     {
         match written(&e.act) {
@@ -126,27 +138,16 @@ impl OpenTransactions {
         }
     }
 
-    /// Adds the transaction that entry `number` of the log begins, before the entry is scheduled. `end` undoes it.
-    /// Only a BEGIN takes memory. An error leaves the list unchanged.
-    pub fn prepare(&mut self, number: u64, e: &Entry) -> Result<(), NoMemory>
-        requires { All (λ t. tx_number t < number) self.old }
-        ensures ok { OnOk result (self.new ≡ lists.transactions_begun self.old number e.now e.now.act) }
-        ensures err { OnErr result (self.new ≡ self.old) }
+    /// Entry `number` of the log is scheduled, which concerns these backends. It takes no memory.
+    pub fn follow(&mut self, number: u64, e: &Entry, hosts: u32)
+        requires above { All (λ t. tx_number t < number) self.old.list }
+        requires place { HasPlace e.now.act self.old.places }
+        ensures { self.new.list ≡ lists.transactions_after self.old.list number hosts e.now e.now.act }
     {
         match &e.act {
             Act::Begin => self.begin(number, e.session),
-            Act::Write(_) | Act::Create(_) | Act::Drop(_) | Act::Commit | Act::Abort => Ok(()),
-        }
-    }
-
-    /// Notes that a prepared entry is scheduled. `hosts` is the mask of the backends that it concerns.
-    /// A write adds them to its transaction, and COMMIT and ABORT remove it. The call takes no memory.
-    pub fn follow(&mut self, e: &Entry, hosts: u32)
-        ensures { self.new ≡ lists.transactions_followed self.old hosts e.now e.now.act }
-    {
-        match &e.act {
             Act::Write(_) => self.add_hosts(e.tx, hosts),
-            Act::Begin | Act::Create(_) | Act::Drop(_) => {}
+            Act::Create(_) | Act::Drop(_) => {}
             Act::Commit | Act::Abort => self.end(e.tx),
         }
     }

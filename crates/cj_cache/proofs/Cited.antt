@@ -1,9 +1,8 @@
 -- The names that answers of this crate cite, its own lemmas among them, passed on from one place. Declares nothing.
-pub use Rattle.cj_cache.proofs.ByTable.{put_listed}
-pub use Rattle.cj_cache.proofs.Common.{Cached, Held, Select, all_listed, entries_held, entries_of_map, insert_all, is_due, same_statement, without_each}
-pub use Rattle.cj_cache.proofs.Doomed.{doomed_dropped, doomed_of, due_doomed}
-pub use Rattle.cj_cache.proofs.Maps.{answer_shown, brought_shown, popped_shown, put_shown, some_shown}
-pub use Rattle.cj_cache.specs.Doomed.{HaveSame, ListsDoomed}
+pub use Rattle.cj_cache.proofs.ByTable.{fewer_listed, put_listed, unneeded_listed}
+pub use Rattle.cj_cache.proofs.Common.{Cached, Held, Select, all_listed, entries_held, entries_of_map, same_statement, without_each}
+pub use Rattle.cj_cache.proofs.Maps.{answer_shown, brought_shown, keys_shown, popped_shown, put_shown, some_shown}
+pub use Rattle.cj_cache.proofs.Needing.{needing_dropped, none_needs, one_unneeded_by_all}
 pub use Rattle.cj_cache.specs.Kept.{HasCapacity, cached, popped_each}
 pub use Rattle.cj_cache.specs.Proving.ByTable.{AreListed, IsListed, StillLists, listed, lists}
 pub use Rattle.cj_model.specs.Cluster.Caching.{CacheState, after_keep, without, without_tables}

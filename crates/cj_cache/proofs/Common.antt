@@ -5,5 +5,4 @@ pub use Rattle.cj_cache.specs.declared.held.Held.{Held}
 pub use Rattle.cj_model.specs.Proving.SameStatements.{same_statement, same_statement-Decides}
 pub use Rattle.cj_model.specs.declared.cached.Cached.{Cached}
 pub use Rattle.cj_model.specs.declared.select.Select.{Select}
-pub use Rattle.indexmap.specs.IndexSet.{insert_all}
 pub use Rattle.std.specs.Str.{bytes_eq}

@@ -1,6 +1,6 @@
 pub mod ByTable
 pub mod Cited
 pub mod Common
-pub mod Doomed
 pub mod Examples
 pub mod Maps
+pub mod Needing

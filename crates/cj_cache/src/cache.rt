@@ -1,30 +1,24 @@
 //! The result cache.
 
-ghost use Rattle.std.specs.Prelude.{◌≡◌, true, ℕ, [], ◌∷◌, is_some, map, take, option_copied, IfOk, OnOk, OnErr};
-ghost use Rattle.std.specs.List.{IsDistinct};
+ghost use Rattle.std.specs.Prelude.{◌≡◌, true, not, ℕ, [], ◌∷◌, filter, is_some, take, option_copied, IfOk, OnOk, OnErr};
 ghost use Rattle.cj_model.specs.Cluster.Caching.{brought_to_front, counted_up, without_tables, empty_cache, cached_entry, has_answer, after_look, after_keep, without};
 ghost use Rattle.cj_model.specs.declared.cached.Cached.{Cached};
 ghost use Rattle.cj_model.specs.Cluster.Caching as caching;
-ghost use Rattle.cj_model.specs.Proving.SameStatements.{same_statement};
-ghost use Rattle.cj_cache.specs.Doomed.{ListsDoomed};
-ghost use Rattle.cj_cache.specs.Kept.{HasCapacity, entries_held, without_each};
+ghost use Rattle.cj_cache.specs.Kept.{HasCapacity, entries_held};
 ghost use Rattle.cj_cache.specs.Proving.ByTable.{AreListed};
 
 use crate::by_table::ByTable;
 use crate::held::{self, Held};
-use cj_model::{Answer, Cached, ListOf, NoMemory, Select, TableSet};
+use cj_model::{Answer, Cached, NoMemory, Select, TableSet};
 use lru::LruCache;
 use std::alloc::Global;
 use std::collections::HashMap;
 use std::marker::Model;
 use std::num::NonZeroUsize;
 
-/// A list of statements.
-pub type Selects = ListOf<Select>;
-
 /// A cache of statements with their answers, which contracts see with the most recently used first.
 ///
-/// After `new`, only `keep` and `doomed` allocate.
+/// After `new`, only `keep` allocates.
 #[derive(Drop)]
 pub struct Cache {
     alloc: Global,
@@ -100,17 +94,15 @@ fn put_front(
     }
 }
 
-#[tactic(auto, using(crate::proofs::Doomed::none_differ, crate::proofs::Maps::none_left))]
-fn drop_each(held: &mut Option<LruCache<Select, Held>>, by_table: &mut ByTable, doomed: &[Select])
+fn drop_needing(held: &mut Option<LruCache<Select, Held>>, by_table: &mut ByTable, set: &TableSet)
     requires { AreListed by_table.old (entries_held held.old) }
-    ensures entries { entries_held held.new ≡ without_each doomed.now (entries_held held.old) }
-    ensures distinct { IsDistinct same_statement (map (λ e. e.select) (entries_held held.old)) }
+    ensures entries { entries_held held.new ≡ filter (λ e. not (caching.needs_one_of set.now e.select)) (entries_held held.old) }
     ensures capacity { (n : ℕ) → HasCapacity n held.old → HasCapacity n held.new }
     ensures listed { AreListed by_table.new (entries_held held.new) }
 {
     match held {
         None => {}
-        Some(held) => held::drop_each(held, by_table, doomed),
+        Some(held) => held::drop_needing(held, by_table, set),
     }
 }
 
@@ -173,24 +165,11 @@ impl Cache {
         )
     }
 
-    /// Copies exactly the kept statements that need one of the tables; fails if memory runs out.
-    #[tactic(auto, using(crate::proofs::Doomed::none_same, crate::proofs::Doomed::none_differ))]
-    pub fn doomed(&self, set: &TableSet) -> Result<Selects, NoMemory>
-        ensures { IfOk result (λ found. ListsDoomed set.now self.now found) }
-    {
-        match &self.held {
-            None => Ok(ListOf::new(self.alloc)),
-            Some(held) => held::copy_doomed(self.alloc, held, &self.by_table, set),
-        }
-    }
-
-    /// Drops exactly the entries that need one of the tables. `doomed` must be what the call `doomed` answers for the
-    /// same tables and the cache as it is.
-    pub fn drop_tables(&mut self, set: &TableSet, doomed: &Selects)
-        requires { ListsDoomed set.now self.old doomed.now }
+    /// Drops exactly the answers whose statements need one of the tables. It takes no memory.
+    pub fn drop_needing(&mut self, set: &TableSet)
         ensures { self.new ≡ without_tables set.now self.old }
     {
-        drop_each(&mut self.held, &mut self.by_table, doomed.as_slice());
+        drop_needing(&mut self.held, &mut self.by_table, set);
     }
 
     /// Whether the cache never keeps anything, so that no answer need be copied for it.

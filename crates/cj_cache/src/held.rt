@@ -1,18 +1,15 @@
 //! The map of a cache: statements with their answers, the most recently used first.
 
-ghost use Rattle.std.specs.Prelude.{◌≡◌, [], ◌∷◌, filter, is_some, map, option_copied, option_map, take, IfOk, OnOk, OnErr};
-ghost use Rattle.std.specs.List.{IsDistinct};
-ghost use Rattle.indexmap.specs.IndexSet.{insert_all};
+ghost use Rattle.std.specs.Prelude.{◌≡◌, false, not, [], ◌∷◌, All, filter, is_some, option_copied, option_map, take, OnOk, OnErr};
+ghost use Rattle.std.specs.List.{list_any};
+ghost use Rattle.std.specs.Str.{bytes_eq};
 ghost use Rattle.cj_model.specs.Cluster.Caching.{brought_to_front, cached_entry, without};
 ghost use Rattle.cj_model.specs.Cluster.Caching as caching;
-ghost use Rattle.cj_model.specs.Proving.SameStatements.{same_statement};
-ghost use Rattle.cj_cache.specs.Doomed.{HaveSame};
 ghost use Rattle.cj_cache.specs.Kept.{entries_of_map, without_each};
-ghost use Rattle.cj_cache.specs.Proving.ByTable.{AreListed, all_listed, is_due, listed};
+ghost use Rattle.cj_cache.specs.Proving.ByTable.{AreListed, listed};
 
 use crate::by_table::{self, ByTable};
-use cj_model::{Answer, Cached, Duplicate, ListOf, Name, NoMemory, Select, TableSet};
-use indexmap::IndexSet;
+use cj_model::{Answer, Cached, Name, NoMemory, Select, TableSet};
 use lru::LruCache;
 use std::alloc::Global;
 
@@ -117,57 +114,56 @@ fn needs_one_of(select: &Select, set: &TableSet) -> bool
         .any(|name| set.contains(name))
 }
 
-/// Adds copies of the statements listed under a table that need one of the tables and are kept.
-fn copy_listed(
-    alloc: Global,
-    held: &LruCache<Select, Held>,
-    by_table: &ByTable,
-    set: &TableSet,
-    table: &Name,
-    found: &mut IndexSet<Select>,
-) -> Result<(), NoMemory>
-    ensures { OnOk result (found.new.keys ≡ insert_all same_statement found.old.keys (filter (is_due set.now (entries_of_map held.now)) (listed by_table.now table.now))) }
+/// Drops the entries of the statements listed under a table that need one of the tables.
+fn pop_listed(held: &mut LruCache<Select, Held>, by_table: &ByTable, set: &TableSet, table: &Name)
+    ensures entries { entries_of_map held.new ≡ without_each (filter (caching.needs_one_of set.now) (listed by_table.now table.now)) (entries_of_map held.old) }
+    ensures capacity { held.new.cap ≡ held.old.cap }
 {
     let Some(statements) = by_table.get(table) else {
-        return Ok(());
+        return;
     };
     for select in statements.as_slice() {
-        if needs_one_of(select, set) && is_kept(held, select) {
-            found.insert(select.copy(alloc)?)?;
+        if needs_one_of(select, set) {
+            let _ = held.pop(select);
         }
     }
-    Ok(())
 }
 
-/// Copies the kept statements that need one of the tables, without a walk over the others.
-pub fn copy_doomed(
-    alloc: Global,
-    held: &LruCache<Select, Held>,
-    by_table: &ByTable,
-    set: &TableSet,
-) -> Result<ListOf<Select>, NoMemory>
-    requires { AreListed by_table.now (entries_of_map held.now) }
-    ensures { IfOk result (λ found. HaveSame found (map (λ e. e.select) (filter (λ e. caching.needs_one_of set.now e.select) (entries_of_map held.now))) × IsDistinct same_statement found) }
+/// Drops the entries that need one of the tables, without a walk over the others.
+fn pop_needing(held: &mut LruCache<Select, Held>, by_table: &ByTable, set: &TableSet)
+    requires { AreListed by_table.now (entries_of_map held.old) }
+    ensures entries { entries_of_map held.new ≡ filter (λ e. not (caching.needs_one_of set.now e.select)) (entries_of_map held.old) }
+    ensures capacity { held.new.cap ≡ held.old.cap }
 {
-    let mut found = IndexSet::new(alloc);
+    let _kept = held.len();
     for table in set.as_slice() {
-        copy_listed(alloc, held, by_table, set, table, &mut found)?;
+        pop_listed(held, by_table, set, table);
     }
-    Ok(ListOf::from_vec(found.into_iter().collect(alloc)?))
 }
 
-/// Drops the entries of these statements.
-#[tactic(auto, using(crate::proofs::ByTable::popped_listed, crate::proofs::Maps::keys_shown))]
-pub fn drop_each(held: &mut LruCache<Select, Held>, by_table: &mut ByTable, doomed: &[Select])
+/// Removes a table that no entry needs, and the statements listed there from the lists of their other tables.
+fn unlist_table(held: &LruCache<Select, Held>, by_table: &mut ByTable, table: &Name)
+    requires listed { AreListed by_table.old (entries_of_map held.now) }
+    requires unneeded { All (λ e. list_any (bytes_eq table.now) e.select.tables ≡ false) (entries_of_map held.now) }
+    ensures { AreListed by_table.new (entries_of_map held.now) }
+{
+    let Some(statements) = by_table.remove(table) else {
+        return;
+    };
+    for select in statements.as_slice() {
+        unlist_unkept(held, by_table, select);
+    }
+}
+
+/// Drops the entries that need one of the tables. It takes no memory.
+pub fn drop_needing(held: &mut LruCache<Select, Held>, by_table: &mut ByTable, set: &TableSet)
     requires { AreListed by_table.old (entries_of_map held.old) }
-    ensures entries { entries_of_map held.new ≡ without_each doomed.now (entries_of_map held.old) }
-    ensures distinct { IsDistinct same_statement (map (λ e. e.select) (entries_of_map held.old)) }
+    ensures entries { entries_of_map held.new ≡ filter (λ e. not (caching.needs_one_of set.now e.select)) (entries_of_map held.old) }
     ensures capacity { held.new.cap ≡ held.old.cap }
     ensures listed { AreListed by_table.new (entries_of_map held.new) }
 {
-    let _kept = held.len();
-    for select in doomed {
-        let _ = held.pop(select);
-        unlist_unkept(held, by_table, select);
+    pop_needing(held, by_table, set);
+    for table in set.as_slice() {
+        unlist_table(held, by_table, table);
     }
 }

@@ -13,6 +13,7 @@ ghost use Rattle.cj_state.specs.Faults.{faults_of};
 ghost use Rattle.cj_state.specs.Seats.{states_of, AreCellsAt};
 ghost use Rattle.cj_state.specs.Sharing.{IsTakenApart, NumbersFollowHistory};
 ghost use Rattle.cj_state.specs.Worlds.{log_view, IsFresh, IsWorld};
+ghost use Rattle.cj_book.specs.BookLogs.{LogFollows};
 ghost use Rattle.cj_book.specs.Books.{IsKeptIn};
 ghost use Rattle.cj_log.specs.Logs.{KeepsItems};
 ghost use Rattle.cj_outside.specs.Stores.{Only};
@@ -191,8 +192,18 @@ impl<B: Backend + Drop, S: Store + Drop> World<B, S> {
             sessions,
             dumps,
         } = seated;
-        let book = Book::open(alloc, book, log, &board, book_seat)?;
-        let mut state = State::new(alloc, board, pass, book, cells, sessions, accounts, dumps);
+        let (book, recovery_log) = Book::open(alloc, book, log, &board, book_seat)?;
+        let mut state = State::new(
+            alloc,
+            board,
+            pass,
+            book,
+            recovery_log,
+            cells,
+            sessions,
+            accounts,
+            dumps,
+        );
         let brought = bring_up(&mut state);
         state.legal();
         match brought {
@@ -213,13 +224,14 @@ impl<B: Backend + Drop, S: Store + Drop> World<B, S> {
         state.into_log()
     }
 
-    /// Takes the world apart: its board, the book and the cells with seats there, its accounts and
-    /// its dumps. This takes no memory.
+    /// Takes the world apart: its board, the book and the cells with seats there, the recovery log,
+    /// its accounts and its dumps. This takes no memory.
     pub fn into_shared(self) -> Shared<B, S>
         ensures world { IsWorld B.tells self }
         ensures fresh { IsFresh B.tells self }
         ensures parts { IsTakenApart B.tells self (board_id result.board) (pass_board result.pass) result.book result.cells.items result.accounts result.dumps }
-        ensures recovery_log { log_view S.faults S.held result.book.state.recovery_log ≡ self.recovery_log }
+        ensures recovery_log { log_view S.faults S.held result.recovery_log.log ≡ self.recovery_log }
+        ensures follows { LogFollows S.tells S.faults result.recovery_log result.book.state.history }
         ensures emptied { result.emptied.items ≡ [] }
         ensures room { BACKEND_LIMIT ≤ vec_capacity result.emptied }
     {

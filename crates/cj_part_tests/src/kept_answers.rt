@@ -45,11 +45,7 @@ fn answers_are_kept(rt: HostRuntime) -> Result<(), Fail> {
     assert!(rt; cache.kept(&of_table(&rt, alloc, "b")?).is_none());
     let mut set = TableSet::new(alloc);
     assert!(rt; set.insert(&name(&rt, "a")).is_ok());
-    let Ok(doomed) = cache.doomed(&set) else {
-        panic!(&rt; "doomed")
-    };
-    assert_eq!(rt; doomed.len(), 1);
-    cache.drop_tables(&set, &doomed);
+    cache.drop_needing(&set);
     assert!(rt; !cache.touch(&of_table(&rt, alloc, "a")?));
     assert!(rt; cache.kept(&of_table(&rt, alloc, "c")?).is_some());
     assert_eq!(rt; cache.counts(), (1, 1));

@@ -17,7 +17,7 @@ use Rattle.cj_state.proofs.CellsKept.{position_within}
 use Rattle.cj_state.proofs.ChangedCell.{cell_there, changed_logins, may_change_under, stands_there}
 
 -- what holds in each case of an error that is noted holds
-pub notes_cases : {S : Type 0} (Q : AskError → BookState S → Type 0) (old new : BookState S) (s q b : ℕ) (d : CellReadError) (e : AskError) → Notes old s q b d e new
+pub notes_cases : (Q : AskError → BookState → Type 0) (old new : BookState) (s q b : ℕ) (d : CellReadError) (e : AskError) → Notes old s q b d e new
     → (d ≡ errors.Out → Q ask_errors.Out old) → ((p : ℕ) → d ≡ errors.Behind p → Q (ask_errors.Behind p) old) → (d ≡ errors.NoMemory → Q ask_errors.NoMemory old)
     → (d ≡ errors.Failed → 0 < events_left old.history → Q ask_errors.Failed (with_event old (ReadFailed s q b))) → (d ≡ errors.Failed → (k : ℕ) → HasNoRoomForOne old k → Q (ask_errors.Unnoted k) old) → Q e new
 notes_cases Q old new s q b errors.Out e notes out behind want came full = rw (notes.0, notes.1) (out refl)
@@ -69,11 +69,11 @@ module _ {tells : Bool} {w : WorldState} {numbers : List ℕ} {tally : Tally} (k
     )
 
     -- or why it did not
-    pub errs : {S : Type 0} (tx : ℕ) (select : Select) (k new : BookState S) (q : ℕ) (d : CellReadError) (e : AskError) → k.history ≡ old.core.history → Notes k number q b d e new → (IsErrOf {T = Asked × ℕ} (Err d) errors.Out ↔ (x.position ≡ None))
+    pub errs : (tx : ℕ) (select : Select) (k new : BookState) (q : ℕ) (d : CellReadError) (e : AskError) → k.history ≡ old.core.history → Notes k number q b d e new → (IsErrOf {T = Asked × ℕ} (Err d) errors.Out ↔ (x.position ≡ None))
         → ((p : ℕ) → IsErrOf {T = Asked × ℕ} (Err d) (errors.Behind p) ↔ ((x.position ≡ Some p) × (p < least))) → Asks tells old.core number b tx select (Err e)
     errs {S} tx select k new q d e is notes out behind =
         let far : d ≡ errors.Failed → IsFarEnough old.core number b = λ was. far_enough (Err d) (ap (λ (z : CellReadError). Err z) was) x.position refl out behind in
-        notes_cases (λ (y : AskError) (z : BookState S). Asks tells old.core number b tx select (Err y)) k new number q b d e notes (λ was. place ∙ out.0 (ap (λ (z : CellReadError). Err z) was))
+        notes_cases (λ (y : AskError) (z : BookState). Asks tells old.core number b tx select (Err y)) k new number q b d e notes (λ was. place ∙ out.0 (ap (λ (z : CellReadError). Err z) was))
         (λ p was. (let early = (behind p).0 (ap (λ (z : CellReadError). Err z) was) in (place ∙ early.0, subst (λ (m : ℕ). p < m) is_least early.1)))
         (λ was. tt) (λ was space. (far was, subst (λ (h : List Event). 0 < events_left h) is space))
         (λ was n full.
@@ -82,34 +82,34 @@ module _ {tells : Bool} {w : WorldState} {numbers : List ℕ} {tally : Tally} (k
         (far was, subst (λ (h : List Event). events_left h ≡ 0) is no_room, subst (λ (h : List Event). n ≡ length h) is full.events))
 
   -- under which login it was asked
-  pub noted_logins : {S : Type 0} {How : CellState → CellState → Type 0} {now : List CellState} (ch : ChangesCell w.cells b How now) (k new : BookState S) (s q : ℕ) (d : CellReadError) (e : AskError) (given : List ℕ) → Notes k s q b d e new
+  pub noted_logins : {How : CellState → CellState → Type 0} {now : List CellState} (ch : ChangesCell w.cells b How now) (k new : BookState) (s q : ℕ) (d : CellReadError) (e : AskError) (given : List ℕ) → Notes k s q b d e new
       → LogsInForRead ch.before.login given (Err d) ch.after.login → AskedUnderLogin b given (Err e) (logins_of old.cells) (logins_of now)
   noted_logins {S} {How} {now} ch k new s q d e given notes logs =
       let by : (z : CellReadError) → d ≡ z → LogsInForRead ch.before.login given (Err z) ch.after.login = λ z is. subst (λ (y : CellReadError). LogsInForRead ch.before.login given (Err y) ch.after.login) is logs in
       let same = changed_logins kept seen within ch in
       let may = may_change_under kept seen within ch given in
-      notes_cases (λ (y : AskError) (z : BookState S). AskedUnderLogin b given (Err y) (logins_of old.cells) (logins_of now)) k new s q b d e notes
+      notes_cases (λ (y : AskError) (z : BookState). AskedUnderLogin b given (Err y) (logins_of old.cells) (logins_of now)) k new s q b d e notes
       (λ is. same (by errors.Out is)) (λ p is. same (by (errors.Behind p) is)) (λ is. same (by errors.NoMemory is)) (λ is space. may (by errors.Failed is)) (λ is n full. may (by errors.Failed is))
 
 -- what becomes of the core
-pub noted_core : {S : Type 0} (cells : List CellState) (f t : ℕ) (ss : List OpenSession) (ds : List Dump) (k new : BookState S) (s q b : ℕ) (d : CellReadError) (e : AskError) (c : Core) → Notes k s q b d e new
+pub noted_core : (cells : List CellState) (f t : ℕ) (ss : List OpenSession) (ds : List Dump) (k new : BookState) (s q b : ℕ) (d : CellReadError) (e : AskError) (c : Core) → Notes k s q b d e new
     → core_of k.layout k.history cells f t ss k.greatest ds ≡ c → q ≡ read_number (session_at c s) → core_of new.layout new.history cells f t ss new.greatest ds ≡ asked_core c s b (Err e)
 noted_core {S} cells f t ss ds k new s q b d e c notes core number =
-    notes_cases (λ (y : AskError) (z : BookState S). core_of z.layout z.history cells f t ss z.greatest ds ≡ asked_core c s b (Err y)) k new s q b d e notes (λ was. core) (λ p was. core) (λ was. core)
+    notes_cases (λ (y : AskError) (z : BookState). core_of z.layout z.history cells f t ss z.greatest ds ≡ asked_core c s b (Err y)) k new s q b d e notes (λ was. core) (λ p was. core) (λ was. core)
     (λ was space. ap (λ (z : Core). happened z (ReadFailed s q b)) core ∙ ap (λ (m : ℕ). happened c (ReadFailed s m b)) number) (λ was n full. core)
 
 -- whose fault was counted
-pub noted_fault : {S : Type 0} (old new : BookState S) (s q b : ℕ) (d : CellReadError) (e : AskError) (before now : ℕ) → Notes old s q b d e new → CountsFault (IsErrOf {T = Asked × ℕ} (Err d) errors.Failed) before now
+pub noted_fault : (old new : BookState) (s q b : ℕ) (d : CellReadError) (e : AskError) (before now : ℕ) → Notes old s q b d e new → CountsFault (IsErrOf {T = Asked × ℕ} (Err d) errors.Failed) before now
     → (failed : Bool) × (failed_asked b (Err e) ≡ cond failed (Some b) None) × (now ≡ cond failed (next before) before)
 noted_fault {S} old new s q b d e before now notes cause =
-    notes_cases (λ (y : AskError) (z : BookState S). (failed : Bool) × (failed_asked b (Err y) ≡ cond failed (Some b) None) × (now ≡ cond failed (next before) before)) old new s q b d e notes
+    notes_cases (λ (y : AskError) (z : BookState). (failed : Bool) × (failed_asked b (Err y) ≡ cond failed (Some b) None) × (now ≡ cond failed (next before) before)) old new s q b d e notes
     (λ was. (false, refl, cause.uncounted (λ is. cc (was, is)))) (λ p was. (false, refl, cause.uncounted (λ is. cc (was, is)))) (λ was. (false, refl, cause.uncounted (λ is. cc (was, is))))
     (λ was space. (true, refl, cause.counted (ap (λ (z : CellReadError). Err z) was))) (λ was n full. (true, refl, cause.counted (ap (λ (z : CellReadError). Err z) was)))
 
 -- want of memory is the cell's alone
-pub noted_want : {S : Type 0} (old new : BookState S) (s q b : ℕ) (d : CellReadError) (e : AskError) → Notes old s q b d e new → e ≡ ask_errors.NoMemory → (d ≡ errors.NoMemory) × (new ≡ old)
+pub noted_want : (old new : BookState) (s q b : ℕ) (d : CellReadError) (e : AskError) → Notes old s q b d e new → e ≡ ask_errors.NoMemory → (d ≡ errors.NoMemory) × (new ≡ old)
 noted_want {S} old new s q b d e notes =
-    notes_cases (λ (y : AskError) (z : BookState S). y ≡ ask_errors.NoMemory → (d ≡ errors.NoMemory) × (z ≡ old)) old new s q b d e notes
+    notes_cases (λ (y : AskError) (z : BookState). y ≡ ask_errors.NoMemory → (d ≡ errors.NoMemory) × (z ≡ old)) old new s q b d e notes
     (λ was is. absurd (cc is)) (λ p was is. absurd (cc is)) (λ was is. (was, refl)) (λ was space is. absurd (cc is)) (λ was n full is. absurd (cc is))
 
 -- then the cell is as before

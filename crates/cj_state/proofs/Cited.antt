@@ -53,3 +53,5 @@ pub use Rattle.cj_state.specs.Proving.Seated.{AreAt, HasLearned, KnowsPositions}
 pub use Rattle.cj_state.specs.Worlds.{IsWorld, accounts_of, log_view, with_balance, with_cache, with_log}
 pub use Rattle.cj_state.specs.declared.cells.AskError.TheVariants.{Unnoted}
 pub use Rattle.std.specs.Prelude.{IfOk, IfSome}
+pub use Rattle.cj_book.proofs.LogFollowing.{log_more}
+pub use Rattle.cj_book.specs.BookLogs.{LogFollows}

@@ -12,10 +12,11 @@ use Rattle.cj_state.proofs.CellsKept.{position_of}
 
 -- ---- what a book has heard
 
-pub heard_then : {S : Type 0} (a b c : SeatedBook S) → HasLearned a b → HasLearned b c → HasLearned a c
+pub heard_then : (a b c : SeatedBook) → HasLearned a b → HasLearned b c → HasLearned a c
 heard_then a b c p q =
     record {
       state = q.state ∙ p.state;
+      pending = q.pending ∙ p.pending;
       given = q.given ∙ p.given;
       last_given = q.last_given ∙ p.last_given;
       tokens = λ k. (let m : fault_tokens_of k a.view.fault_tokens ≤ fault_tokens_of k b.view.fault_tokens = p.tokens k in let n : fault_tokens_of k b.view.fault_tokens ≤ fault_tokens_of k c.view.fault_tokens = q.tokens k in omega arith);
@@ -23,7 +24,7 @@ heard_then a b c p q =
     }
 
 -- a seat that learnt
-module _ {S : Type 0} (old new : SeatedBook S) (w : SeatView) (state : new.state ≡ old.state) (view : new.view ≡ after_learning old.view w) where
+module _ (old new : SeatedBook) (w : SeatView) (state : new.state ≡ old.state) (pending : new.pending ≡ old.pending) (view : new.view ≡ after_learning old.view w) where
   pub learnt_tokens : (k : ℕ) → fault_tokens_of k new.view.fault_tokens ≡ fault_tokens_of k old.view.fault_tokens + fault_tokens_of k w.fault_tokens
   learnt_tokens k = ap (λ (v : SeatView). fault_tokens_of k v.fault_tokens) view ∙ tokens-append k old.view.fault_tokens w.fault_tokens
 
@@ -31,6 +32,7 @@ module _ {S : Type 0} (old new : SeatedBook S) (w : SeatView) (state : new.state
   learnt =
       record {
         state = state;
+        pending = pending;
         given = ap (λ (v : SeatView). v.given) view;
         last_given = ap (λ (v : SeatView). v.last_given) view;
         tokens = λ k. (let e : fault_tokens_of k new.view.fault_tokens ≡ fault_tokens_of k old.view.fault_tokens + fault_tokens_of k w.fault_tokens = learnt_tokens k in omega arith);
@@ -40,7 +42,7 @@ module _ {S : Type 0} (old new : SeatedBook S) (w : SeatView) (state : new.state
   pub learnt_note : (x : ℕ × ℕ) → Contains w.position_notes x → Contains new.view.position_notes x
   learnt_note x there = subst (λ (v : SeatView). Contains v.position_notes x) (sym view) (Contains-append_right old.view.position_notes w.position_notes x there)
 
-pub ready_heard : {S : Type 0} (old new : SeatedBook S) (failed : ℕ) → IsReady old.view failed → HasLearned old new → IsReady new.view failed
+pub ready_heard : (old new : SeatedBook) (failed : ℕ) → IsReady old.view failed → HasLearned old new → IsReady new.view failed
 ready_heard old new failed ready heard =
     record {
       unowned = heard.given ∙ ready.unowned;
@@ -49,7 +51,7 @@ ready_heard old new failed ready heard =
     }
 
 -- the book heard of the backend that failed
-pub ready_taken : {S : Type 0} (old new : SeatedBook S) (failed b : ℕ) (d : Did) → IsReady old.view failed → HasLearned old new → (d ≡ did.Failed → 0 < fault_tokens_of b new.view.fault_tokens) → IsReady new.view (failed_after failed b d)
+pub ready_taken : (old new : SeatedBook) (failed b : ℕ) (d : Did) → IsReady old.view failed → HasLearned old new → (d ≡ did.Failed → 0 < fault_tokens_of b new.view.fault_tokens) → IsReady new.view (failed_after failed b d)
 ready_taken old new failed b (did.Done o) ready heard token = ready_heard old new failed ready heard
 ready_taken old new failed b did.Skipped ready heard token = ready_heard old new failed ready heard
 ready_taken old new failed b did.Starved ready heard token = ready_heard old new failed ready heard

@@ -43,7 +43,7 @@ numbers_with f keeps (x ∷ ss) s = one (x.number == s) (numbers_with f keeps ss
 
 -- ---- a book and its core
 
-module _ {S : Type 0} (b : BookState S) (cells : List CellState) (f s : ℕ) (ss : List OpenSession) (ds : List Dump) (are : b.sessions ≡ map (λ (x : OpenSession). x.number) ss) where
+module _ (b : BookState) (cells : List CellState) (f s : ℕ) (ss : List OpenSession) (ds : List Dump) (are : b.sessions ≡ map (λ (x : OpenSession). x.number) ss) where
   pub open_is : (n : ℕ) → has_session b n ≡ moves.is_open (core_of b.layout b.history cells f s ss b.greatest ds) n
   open_is n = ap (λ l. list_any (λ m. m == n) l) are ∙ any_number ss n
 

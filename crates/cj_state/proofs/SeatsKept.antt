@@ -36,20 +36,20 @@ quiet_or_fault e fault (Err LogFault) quiet also = also
 quiet_or_fault e fault (Err NoMemory) quiet also = tt
 
 -- where no session has an own pass, this one has none
-pub owns_none : {S : Type 0} (book : SeatedBook S) (s : ℕ) → book.view.given ≡ [] → Contains book.view.given s → ⊥
+pub owns_none : (book : SeatedBook) (s : ℕ) → book.view.given ≡ [] → Contains book.view.given s → ⊥
 owns_none book s unowned there =
     let nowhere : Contains [] s = subst (λ (given : List ℕ). Contains given s) unowned there in
     let lt : nowhere.0 < 0 = nowhere.1 in
     absurd (omega arith)
 
 -- where no session has an own pass, none has to be counted
-pub counted : {S : Type 0} (book : SeatedBook S) (e : Event) → book.view.given ≡ [] → IsCounted book e
+pub counted : (book : SeatedBook) (e : Event) → book.view.given ≡ [] → IsCounted book e
 counted book e unowned = subst (λ (given : List ℕ). HasCountNotes given book.state.history book.view.count_notes e) (sym unowned) (λ s there. absurd (nowhere s there))
   where
     nowhere : (s : ℕ) → Contains [] s → ⊥
     nowhere s there = let lt : there.0 < 0 = there.1 in absurd (omega arith)
 
-module _ {S : Type 0} (id pass : TableId) (old new : SeatedBook S) (cells : List SeatedCell) (failed : ℕ) (at : AreAt id pass old.board cells) (ready : IsReady old.view failed) where
+module _ (id pass : TableId) (old new : SeatedBook) (cells : List SeatedCell) (failed : ℕ) (at : AreAt id pass old.board cells) (ready : IsReady old.view failed) where
   pub at_book : new.board ≡ old.board → AreAt id pass new.board cells
   at_book same = record { of_pass = at.of_pass; of_book = same ∙ at.of_book; of_cells = at.of_cells }
 
@@ -94,7 +94,7 @@ read_spends s q b k v = by_test (k == b) refl
     by_test false is = let same = spend_none (λ c. c == b) k v.fault_tokens is in omega arith
 
 -- A backend was asked that may have failed: the book heard of a fault more, and spent a token of it at most.
-pub ready_noted : {S : Type 0} (old mid new : SeatedBook S) (failed b : ℕ) (error : CellReadError) → IsReady old.view failed → HasLearned old mid → (error ≡ read_errors.Failed → fault_tokens_of b old.view.fault_tokens < fault_tokens_of b mid.view.fault_tokens)
+pub ready_noted : (old mid new : SeatedBook) (failed b : ℕ) (error : CellReadError) → IsReady old.view failed → HasLearned old mid → (error ≡ read_errors.Failed → fault_tokens_of b old.view.fault_tokens < fault_tokens_of b mid.view.fault_tokens)
     → new.view.given ≡ mid.view.given → new.view.last_given ≡ mid.view.last_given → SpendsAtMostOne error b mid.view.fault_tokens new.view.fault_tokens → IsReady new.view failed
 ready_noted old mid new failed b error ready heard more given last_given spent =
     record { unowned = given ∙ (heard.given ∙ ready.unowned); none_given = last_given ∙ (heard.last_given ∙ ready.none_given); tokens = λ k on. some error k (ready.tokens k on) (heard.tokens k) more spent }

@@ -16,7 +16,7 @@ has-and_not m k b fits lt =
     ∙ (has_without m k 0 b fits lt (omega arith) ∙ ap (λ x. in_mask m b && not x) (ap (λ x. in_mask k b || x) (has-zero b) ∙ or-false (in_mask k b)))
 
 -- the candidates of the book are the backends that serve the query
-pub candidates_serve : {S : Type 0} (c : Core) (book : BookState S) (select : Select) (mask : ℕ) → c.placement ≡ placement_at book → c.history ≡ book.history
+pub candidates_serve : (c : Core) (book : BookState) (select : Select) (mask : ℕ) → c.placement ≡ placement_at book → c.history ≡ book.history
     → ((b : ℕ) → in_mask mask b ≡ is_candidate book select.tables b) → IsServingMask c select mask
 candidates_serve c book select mask placed same is b =
     let q : in_mask mask b ≡ (is_enabled c.history b && hosts_all c.placement b select.tables) = rw (placed, same) (is b) in

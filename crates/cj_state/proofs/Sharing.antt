@@ -10,7 +10,7 @@ use Rattle.cj_log.specs.Logs.{LogState, IsBeforeOrAfter, KeepsItems}
 use Rattle.cj_recovery.specs.Openings.{items_of, marker_item}
 
 -- a book of which no session was given an own pass gives the next one
-pub gives_next : {S : Type 0} (book : SeatedBook S) → book.view.front ≡ book.state.history → book.view.last_given ≡ 0 → book.state.greatest + 1 ≡ session_after 0 book.state.history → GivesOwnPassesOnly book
+pub gives_next : (book : SeatedBook) → book.view.front ≡ book.state.history → book.view.last_given ≡ 0 → book.state.greatest + 1 ≡ session_after 0 book.state.history → GivesOwnPassesOnly book
 gives_next book front none next = next ∙ sym (ap (λ (n : ℕ). session_after n book.view.front) none ∙ ap (session_after 0) front)
 
 -- what is left before or after an append is kept in the bytes

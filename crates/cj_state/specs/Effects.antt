@@ -120,7 +120,7 @@ failed_asked b (Err (errors.Unnoted n)) = Some b
 failed_asked b (Err errors.NoMemory) = None
 
 -- the error given for a cell's error, and the book after it: a failure is an event, if there is room
-abbrev pub Notes : {S : Type 0} → BookState S → ℕ → ℕ → ℕ → CellReadError → AskError → BookState S → Type 0
+abbrev pub Notes : BookState → ℕ → ℕ → ℕ → CellReadError → AskError → BookState → Type 0
 Notes old s q b cell_errors.Out error new = (error ≡ errors.Out) × (new ≡ old)
 Notes old s q b (cell_errors.Behind p) error new = (error ≡ errors.Behind p) × (new ≡ old)
 Notes old s q b cell_errors.Failed error new =

@@ -1,5 +1,5 @@
 -- The parts into which a world is taken apart.
-use Rattle.std.specs.Prelude.{◌≡◌, ℕ, ◌+◌, Bool, List, [], map}
+use Rattle.std.specs.Prelude.{◌≡◌, ℕ, ◌+◌, Bool, None, List, [], map}
 use Rattle.atomic_table.specs.Seated.{TableId}
 use Rattle.cj_auth.specs.Admission.{Register}
 use Rattle.cj_board.specs.Counting.{session_after}
@@ -20,7 +20,7 @@ abbrev pub NumbersFollowHistory : WorldState → Type 0
 NumbersFollowHistory w = w.core.greatest + 1 ≡ session_after 0 w.core.history
 
 -- the book of a world: its history, its layout, its sessions, its cache and its balancer
-pub record IsBookOf {S : Type 0} (w : WorldState) (b : BookState S) : Type 0 where
+pub record IsBookOf (w : WorldState) (b : BookState) : Type 0 where
   pub history : b.history ≡ w.core.history
   pub placement : placement_of b.layout ≡ w.core.placement
   pub names : b.layout.names ≡ w.setup.names
@@ -32,10 +32,12 @@ pub record IsBookOf {S : Type 0} (w : WorldState) (b : BookState S) : Type 0 whe
 -- The parts of a world: all seats are at one board, the book's seat has seen the history, and cells and dumps are
 -- those of the world. No session has an own pass, but each further one can be given one where the numbers follow the
 -- history.
-pub record IsTakenApart {S : Type 0} (tells : Bool) (w : WorldState) (id pass : TableId) (b : SeatedBook S) (xs : List SeatedCell) (register : Register) (taken : List Dump) : Type 0 where
+pub record IsTakenApart (tells : Bool) (w : WorldState) (id pass : TableId) (b : SeatedBook) (xs : List SeatedCell) (register : Register) (taken : List Dump) : Type 0 where
   pub at : AreAt id pass b.board xs
   pub book : IsBookOf w b.state
   pub front : b.view.front ≡ b.state.history
+  -- no entry or marker is on its way into the log
+  pub pending : b.pending ≡ None
   pub unowned : b.view.given ≡ []
   pub gives : NumbersFollowHistory w → GivesOwnPassesOnly b
   pub cells : states_of xs ≡ w.cells

@@ -28,7 +28,6 @@ use cj_board::{Board, Pass};
 use cj_book::{Book, BookError};
 use cj_cluster::Did;
 use cj_model::{Asked, Db, NoMemory, Select, Text};
-use cj_outside::Store;
 use cj_replica::{Caught, Cell, CellError, CellReadError};
 use thiserror::Error;
 
@@ -88,10 +87,10 @@ pub fn place(position: Option<u64>) -> u64
 /// Has backend `b` carry out or skip the entry after its position, under the login that the entry's
 /// user has there. The log has such an entry. The book then knows the new position. A backend that
 /// failed or ran out of memory is out.
-pub fn take<B: Backend, S: Store>(
+pub fn take<B: Backend>(
     board: &Board,
     pass: &mut Pass,
-    book: &mut Book<S>,
+    book: &mut Book,
     cells: &mut Vec<Cell<B>>,
     accounts: &Accounts,
     b: u8,
@@ -111,9 +110,9 @@ pub fn take<B: Backend, S: Store>(
     did
 }
 
-fn catch_up_at<B: Backend, S: Store>(
+fn catch_up_at<B: Backend>(
     board: &Board,
-    book: &Book<S>,
+    book: &Book,
     cells: &mut Vec<Cell<B>>,
     accounts: &Accounts,
     b: u8,
@@ -137,10 +136,10 @@ fn catch_up_at<B: Backend, S: Store>(
 /// Asks backend `b` a query in transaction `tx`, 0 for none, under this login. Gives the answer and
 /// the position, which is at least `least`. Errors are those of `Cell::read`; the book learns of a
 /// failure.
-pub fn read_at<B: Backend, S: Store>(
+pub fn read_at<B: Backend>(
     board: &Board,
     pass: &mut Pass,
-    book: &mut Book<S>,
+    book: &mut Book,
     cells: &mut Vec<Cell<B>>,
     b: u8,
     login: &Text,
@@ -187,10 +186,10 @@ pub fn arm_at<B: Backend>(cells: &mut Vec<Cell<B>>, b: u8)
 
 /// Replaces the contents of backend `b`, which is out, by its part of the database after `position`
 /// entries. Then it is at that position. After an error it is still out.
-pub fn load_at<B: Backend, S: Store>(
+pub fn load_at<B: Backend>(
     board: &Board,
     pass: &mut Pass,
-    book: &mut Book<S>,
+    book: &mut Book,
     cells: &mut Vec<Cell<B>>,
     b: u8,
     db: Db,
@@ -212,18 +211,20 @@ pub fn load_at<B: Backend, S: Store>(
 
 /// Says why a backend gave no answer. A failure becomes an event of the history, if that has room;
 /// noting it takes no memory.
-pub fn noted<S: Store>(
+pub fn noted(
     board: &Board,
-    book: &mut Book<S>,
+    book: &mut Book,
     session: u64,
     seq: u64,
     b: u8,
     error: CellReadError,
 ) -> AskError
     requires at { book.old.board ≡ board_id board.now }
+    requires pending { book.old.pending ≡ None }
     requires token { error ≡ CellReadError.Failed → 0 < fault_tokens_of b book.old.view.fault_tokens }
     ensures notes { Notes book.old.state session seq b error result book.new.state }
     ensures at { book.new.board ≡ book.old.board }
+    ensures pending { book.new.pending ≡ book.old.pending }
     ensures given { book.new.view.given ≡ book.old.view.given }
     ensures last_given { book.new.view.last_given ≡ book.old.view.last_given }
     ensures tokens { SpendsAtMostOne error b book.old.view.fault_tokens book.new.view.fault_tokens }

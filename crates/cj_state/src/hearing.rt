@@ -11,14 +11,13 @@ ghost use Rattle.cj_state.specs.Seats.{states_of};
 use cj_backend::Backend;
 use cj_board::{Board, Pass};
 use cj_book::Book;
-use cj_outside::Store;
 use cj_replica::Cell;
 
 /// Lets the cell of backend `b` see the whole history of the book. Positions and contents stay.
-pub fn tell<B: Backend, S: Store>(
+pub fn tell<B: Backend>(
     board: &Board,
     pass: &mut Pass,
-    book: &mut Book<S>,
+    book: &mut Book,
     cells: &mut Vec<Cell<B>>,
     b: u8,
 )
@@ -34,10 +33,10 @@ pub fn tell<B: Backend, S: Store>(
 }
 
 /// Lets the book learn the position of backend `b` and its faults. Positions and contents stay.
-pub fn hear<B: Backend, S: Store>(
+pub fn hear<B: Backend>(
     board: &Board,
     pass: &mut Pass,
-    book: &mut Book<S>,
+    book: &mut Book,
     cells: &mut Vec<Cell<B>>,
     b: u8,
 )
@@ -53,10 +52,10 @@ pub fn hear<B: Backend, S: Store>(
 }
 
 /// Lets the book learn the position and the faults of each backend. Positions and contents stay.
-pub fn hear_all<B: Backend, S: Store>(
+pub fn hear_all<B: Backend>(
     board: &Board,
     pass: &mut Pass,
-    book: &mut Book<S>,
+    book: &mut Book,
     cells: &mut Vec<Cell<B>>,
 )
     requires few { length cells.old.items ≤ BACKEND_LIMIT }

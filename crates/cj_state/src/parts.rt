@@ -3,7 +3,7 @@
 use cj_auth::Accounts;
 use cj_backend::Backend;
 use cj_board::{Board, Pass};
-use cj_book::{Book, BookParts};
+use cj_book::{Book, BookLog, BookParts};
 use cj_model::ListOf;
 use cj_outside::Store;
 use cj_replica::Cell;
@@ -19,14 +19,16 @@ pub struct Parts {
 /// Backends in the order of their numbers.
 pub type Backends<B> = ListOf<B>;
 
-/// A world taken apart: its board, and the book and the cells with seats there. The book and each
-/// cell may get a lock of their own.
+/// A world taken apart: its board, the book and the cells with seats there, and the recovery log. The
+/// book and each cell may get a lock of their own.
 #[derive(Drop)]
 pub struct Shared<B: Backend, S: Store> {
     pub board: Board,
     /// The pass that carries knowledge from one seat to another.
     pub pass: Pass,
-    pub book: Book<S>,
+    pub book: Book,
+    /// The recovery log, which follows the book's history.
+    pub recovery_log: BookLog<S>,
     /// The cells, by the numbers of their backends.
     pub cells: Vec<Cell<B>>,
     pub accounts: Accounts,

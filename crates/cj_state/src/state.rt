@@ -29,6 +29,7 @@ ghost use Rattle.cj_model.specs.Database.Storable.{IsStorable};
 ghost use Rattle.cj_model.specs.Cluster.Placements.{part};
 ghost use Rattle.cj_shelf.specs.MemoryShelves.{taken_of};
 ghost use Rattle.cj_recovery.specs.Openings.{OpensTo, items_of};
+ghost use Rattle.cj_book.specs.BookLogs.{LogFollows};
 ghost use Rattle.cj_book.specs.Books.{IsKeptIn};
 ghost use Rattle.cj_book.specs.Starts.{greatest_session};
 ghost use Rattle.cj_outside.specs.Causes.{CountsFault};
@@ -52,7 +53,7 @@ use crate::parts::Shared;
 use cj_auth::Accounts;
 use cj_backend::Backend;
 use cj_board::{Board, Pass};
-use cj_book::{Book, BookError};
+use cj_book::{Book, BookError, BookLog};
 use cj_cluster::{Did, Event, Move, Moved, OpenRead, OpenSession, TakenDump};
 use cj_dump::{Dump, cut};
 use cj_model::{
@@ -78,7 +79,9 @@ pub struct State<B: Backend, S: Store> {
     board: Board,
     /// The pass that carries knowledge between these seats.
     pass: Pass,
-    book: Book<S>,
+    book: Book,
+    /// The recovery log, which follows the book's history.
+    recovery_log: BookLog<S>,
     /// The cells, by the numbers of their backends.
     cells: Vec<Cell<B>>,
     /// What the backends did with the open entry; without reports where none is open.
@@ -98,15 +101,17 @@ impl<B: Backend, S: Store> Model for State<B, S> {
 
     ghost coded = { Prim.hlevel (codes, coded_condition) };
 
+    ghost use Rattle.std.specs.Prelude.{◌≡◌, None};
     ghost use Rattle.cj_board.specs.Seats.{board_id, pass_board};
+    ghost use Rattle.cj_book.specs.BookLogs.{LogFollows};
     ghost use Rattle.cj_state.specs.Proving.Kept.{KeptSeated};
     ghost use Rattle.cj_state.specs.Proving.Seated.{AreAt, IsReady};
     ghost use Rattle.cj_state.specs.Seats.{states_of};
 
-    ghost view = { λ w. with_balance (with_cache (with_log (world_of w.accounts w.book.state.layout w.book.state.history (states_of w.cells.items) w.tally.failed w.tally.starved w.sessions w.book.state.greatest w.dumps) (log_view S.faults S.held w.book.state.recovery_log)) w.book.state.cache) w.book.state.balance };
+    ghost view = { λ w. with_balance (with_cache (with_log (world_of w.accounts w.book.state.layout w.book.state.history (states_of w.cells.items) w.tally.failed w.tally.starved w.sessions w.book.state.greatest w.dumps) (log_view S.faults S.held w.recovery_log.log)) w.book.state.cache) w.book.state.balance };
 
     ghost invariant = { λ w. KeptSeated B.tells (world_of w.accounts w.book.state.layout w.book.state.history (states_of w.cells.items) w.tally.failed w.tally.starved w.sessions w.book.state.greatest w.dumps) w.book.state.sessions w.tally w.book.state.cache w.dumps
-        (AreAt (board_id w.board) (pass_board w.pass) w.book.board w.cells.items × IsReady w.book.view w.tally.failed) };
+        (AreAt (board_id w.board) (pass_board w.pass) w.book.board w.cells.items × IsReady w.book.view w.tally.failed) (LogFollows S.tells S.faults w.recovery_log w.book.state.history × (w.book.pending ≡ None)) };
 }
 
 /// Whether the session has a read open that is of another query.
@@ -151,7 +156,8 @@ impl<B: Backend + Drop, S: Store + Drop> State<B, S> {
         alloc: Global,
         board: Board,
         pass: Pass,
-        book: Book<S>,
+        book: Book,
+        recovery_log: BookLog<S>,
         cells: Vec<Cell<B>>,
         sessions: Sessions,
         accounts: Accounts,
@@ -169,10 +175,12 @@ impl<B: Backend + Drop, S: Store + Drop> State<B, S> {
         requires no_dump { dumps ≡ [] }
         requires at { AreAt (board_id board) (pass_board pass) book.board cells.items }
         requires unowned { (book.view.given ≡ []) × (book.view.last_given ≡ 0) }
+        requires pending { book.pending ≡ None }
+        requires follows { LogFollows S.tells S.faults recovery_log book.state.history }
         ensures core { result.core ≡ opened_core (placement_of book.state.layout) book.state.history }
         ensures cells { result.cells ≡ states_of cells.items }
         ensures setup { result.setup ≡ record { names = book.state.layout.names; accounts = accounts } }
-        ensures recovery_log { result.recovery_log ≡ log_view S.faults S.held book.state.recovery_log }
+        ensures recovery_log { result.recovery_log ≡ log_view S.faults S.held recovery_log.log }
         ensures cache { result.cache ≡ book.state.cache }
         ensures balance { result.balance ≡ book.state.balance }
     {
@@ -182,6 +190,7 @@ impl<B: Backend + Drop, S: Store + Drop> State<B, S> {
             board,
             pass,
             book,
+            recovery_log,
             cells,
             tally,
             sessions,
@@ -213,18 +222,19 @@ impl<B: Backend + Drop, S: Store + Drop> State<B, S> {
         ensures kept { S.tells ≡ true → IsKeptIn (S.held result) self.core.history }
         ensures stop { S.tells ≡ true → (image : List ℕ) → S.may result image → IsKeptIn image self.core.history }
     {
-        self.book.legal();
-        let State { book, .. } = self;
-        book.into_log()
+        self.recovery_log.legal();
+        let State { recovery_log, .. } = self;
+        recovery_log.into_log()
     }
 
-    /// Takes the state apart: its board, the book and the cells with seats there, its accounts and
-    /// its dumps. `emptied` is an empty list that goes along, for the backends.
+    /// Takes the state apart: its board, the book and the cells with seats there, the recovery log,
+    /// its accounts and its dumps. `emptied` is an empty list that goes along, for the backends.
     pub fn into_shared(self, emptied: Vec<B>) -> Shared<B, S>
         ensures world { IsWorld B.tells self }
         ensures fresh { IsFresh B.tells self }
         ensures parts { IsTakenApart B.tells self (board_id result.board) (pass_board result.pass) result.book result.cells.items result.accounts result.dumps }
-        ensures recovery_log { log_view S.faults S.held result.book.state.recovery_log ≡ self.recovery_log }
+        ensures recovery_log { log_view S.faults S.held result.recovery_log.log ≡ self.recovery_log }
+        ensures follows { LogFollows S.tells S.faults result.recovery_log result.book.state.history }
         ensures emptied { result.emptied ≡ emptied }
     {
         self.book.legal();
@@ -232,6 +242,7 @@ impl<B: Backend + Drop, S: Store + Drop> State<B, S> {
             board,
             pass,
             book,
+            recovery_log,
             cells,
             accounts,
             dumps,
@@ -241,6 +252,7 @@ impl<B: Backend + Drop, S: Store + Drop> State<B, S> {
             board,
             pass,
             book,
+            recovery_log,
             cells,
             accounts,
             dumps,
@@ -259,7 +271,7 @@ impl<B: Backend, S: Store> State<B, S> {
         ensures logged { S.tells ≡ true → KeepsHistory self.now }
         ensures fresh { IsFresh B.tells self.now }
     {
-        self.book.legal();
+        self.recovery_log.legal();
     }
 
     /// Returns how many entries there are, which is the number of the last one.
@@ -684,7 +696,10 @@ impl<B: Backend, S: Store> State<B, S> {
         ensures checked { OnErr result (¬ IsErrOf result BookError.LogFault → ¬ IsErrOf result BookError.NoMemory → self.new ≡ self.old) }
         ensures cause { CountsFault (IsErrOf result BookError.LogFault) self.old.recovery_log.faults self.new.recovery_log.faults }
     {
-        match self.book.schedule(&self.board, entry) {
+        match self
+            .book
+            .schedule(&mut self.recovery_log, &self.board, entry)
+        {
             Ok(number) => {
                 self.sessions.count(s);
                 self.tally = Tally::new();
@@ -708,7 +723,10 @@ impl<B: Backend, S: Store> State<B, S> {
         ensures checked { OnErr result (¬ IsErrOf result BookError.LogFault → ¬ IsErrOf result BookError.NoMemory → self.new ≡ self.old) }
         ensures cause { CountsFault (IsErrOf result BookError.LogFault) self.old.recovery_log.faults self.new.recovery_log.faults }
     {
-        match self.book.schedule(&self.board, entry) {
+        match self
+            .book
+            .schedule(&mut self.recovery_log, &self.board, entry)
+        {
             Ok(number) => {
                 self.tally = Tally::new();
                 Ok(number)
@@ -944,7 +962,8 @@ impl<B: Backend, S: Store> State<B, S> {
         ensures checked { OnErr result (¬ IsErrOf result BookError.LogFault → ¬ IsErrOf result BookError.NoMemory → self.new ≡ self.old) }
         ensures cause { CountsFault (IsErrOf result BookError.LogFault) self.old.recovery_log.faults self.new.recovery_log.faults }
     {
-        self.book.mark(&self.board, name, None)
+        self.book
+            .mark(&mut self.recovery_log, &self.board, name, None)
     }
 
     // ---- dumps

@@ -32,21 +32,22 @@ pub record IsReady (book : SeatView) (failed : ℕ) : Type 0 where
   pub tokens : (k : ℕ) → in_mask failed k ≡ true → 0 < fault_tokens_of k book.fault_tokens
 
 -- the book has learned more, and nothing else of it has changed
-pub record HasLearned {S : Type 0} (old new : SeatedBook S) : Type 0 where
+pub record HasLearned (old new : SeatedBook) : Type 0 where
   pub state : new.state ≡ old.state
+  pub pending : new.pending ≡ old.pending
   pub given : new.view.given ≡ old.view.given
   pub last_given : new.view.last_given ≡ old.view.last_given
   pub tokens : (k : ℕ) → fault_tokens_of k old.view.fault_tokens ≤ fault_tokens_of k new.view.fault_tokens
   pub notes : (x : ℕ × ℕ) → Contains old.view.position_notes x → Contains new.view.position_notes x
 
 -- the book has learned the position of backend b's cell, and each fault that the cell has a token of
-pub record HasLearnedOf {S : Type 0} (old : SeatedBook S) (cells : List SeatedCell) (b : ℕ) (new : SeatedBook S) : Type 0 where
+pub record HasLearnedOf (old : SeatedBook) (cells : List SeatedCell) (b : ℕ) (new : SeatedBook) : Type 0 where
   pub heard : HasLearned old new
   pub position : (p : ℕ) → position_in (states_of cells) b ≡ Some p → Contains new.view.position_notes (b, p)
   pub fault : (x : SeatedCell) (k : ℕ) → slice_get cells b ≡ Some x → fault_tokens_of k old.view.fault_tokens + fault_tokens_of k x.view.fault_tokens ≤ fault_tokens_of k new.view.fault_tokens
 
 -- the book has learned the position of each of the first n cells
-abbrev pub KnowsPositions : {S : Type 0} → SeatedBook S → List CellState → ℕ → Type 0
+abbrev pub KnowsPositions : SeatedBook → List CellState → ℕ → Type 0
 KnowsPositions book cells n = (b p : ℕ) → b < n → position_in cells b ≡ Some p → Contains book.view.position_notes (b, p)
 
 -- each cell has the number of its place

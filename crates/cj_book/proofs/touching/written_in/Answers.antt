@@ -3,13 +3,13 @@ use Rattle.cj_book.proofs.Cited.{Entry, has_table, has_written, is_written_in, l
 use Rattle.cj_book.proofs.touching.written_in.Goals as goal
 
 pub loop-n-init : goal.loop-n-init
-loop-n-init g c = λ table.
+loop-n-init c = λ table.
     let entries : List Entry = log c.args.book.now.state.history in
     ap (λ set. has_table set table) c.new-tables.ensures
     ∙ sym (none_written entries (legal_fit c.args.book.now.state.history c.legal.ensures.legal) (min c.args.tx c.args.end) c.args.tx (min-le_left c.args.tx c.args.end) table)
 
 pub loop-n-preserved : goal.loop-n-preserved
-loop-n-preserved g c = λ table.
+loop-n-preserved c = λ table.
     let entries : List Entry = log c.args.book.now.state.history in
     let n = c.loop-n.n in
     let lt : n < c.args.end = omega arith in

@@ -9,10 +9,10 @@ pub returns-clause-took : goal.returns-clause-took
 returns-clause-took g c =
     subst (λ (now : List CellState). TookEntry g.B.Backend.tells c.args.accounts.now.accounts c.args.book.now.state.layout c.args.book.now.state.history (states_of c.args.cells.now.items) c.args.b c.catch_up_at-did.result now) (sym c.hear.ensures.cells)
     (subst (λ (was : List CellState). TookEntry g.B.Backend.tells c.args.accounts.now.accounts c.args.book.now.state.layout c.args.book.now.state.history was c.args.b c.catch_up_at-did.result (states_of c.catch_up_at-did.new.cells.items)) c.tell.ensures.cells
-    (subst (λ (k : BookState g.row.S.Denot). TookEntry g.B.Backend.tells c.args.accounts.now.accounts k.layout k.history (states_of c.tell.new.cells.items) c.args.b c.catch_up_at-did.result (states_of c.catch_up_at-did.new.cells.items)) c.tell.ensures.heard.state c.catch_up_at-did.ensures.took))
+    (subst (λ (k : BookState). TookEntry g.B.Backend.tells c.args.accounts.now.accounts k.layout k.history (states_of c.tell.new.cells.items) c.args.b c.catch_up_at-did.result (states_of c.catch_up_at-did.new.cells.items)) c.tell.ensures.heard.state c.catch_up_at-did.ensures.took))
 
 pub catch_up_at-did-requires-clause-told : goal.catch_up_at-did-requires-clause-told
-catch_up_at-did-requires-clause-told g c = λ d. subst (λ (k : BookState g.row.S.Denot). IsPrefix k.history (get_or c.tell.new.cells.items c.args.b d).view.front) (sym c.tell.ensures.heard.state) (c.tell.ensures.told d)
+catch_up_at-did-requires-clause-told g c = λ d. subst (λ (k : BookState). IsPrefix k.history (get_or c.tell.new.cells.items c.args.b d).view.front) (sym c.tell.ensures.heard.state) (c.tell.ensures.told d)
 
 pub returns-clause-token : goal.returns-clause-token
 returns-clause-token g c failed =

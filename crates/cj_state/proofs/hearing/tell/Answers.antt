@@ -14,7 +14,7 @@ returns-clause-at g c =
     }
 
 pub returns-clause-heard : goal.returns-clause-heard
-returns-clause-heard g c = learnt c.args.book.now c.tell.new.self (pass_without_tokens (pass_view c.args.pass.now)) c.tell.ensures.state c.tell.ensures.book
+returns-clause-heard g c = learnt c.args.book.now c.tell.new.self (pass_without_tokens (pass_view c.args.pass.now)) c.tell.ensures.state c.tell.ensures.pending c.tell.ensures.book
 
 pub returns-clause-cells : goal.returns-clause-cells
 returns-clause-cells g c = states_stay c.args.cells.now.items c.args.b c.index_mut.result.now c.brief.new.self c.requires.within c.index_mut.ensures.value c.brief.ensures.state

@@ -1,25 +1,26 @@
 use Rattle.std.proofs.Common.{refl, rules}
-use Rattle.cj_book.proofs.Cited.{Disabled, book_view, kept_disabled, next_after, no_counts}
+use Rattle.cj_book.proofs.Cited.{Disabled, book_view, kept_for_none, kept_disabled, next_after, no_counts}
 use Rattle.cj_book.proofs.book.Book.disable.Goals as goal
 
 pub append-requires-clause-legal : goal.append-requires-clause-legal
-append-requires-clause-legal g c =
+append-requires-clause-legal c =
     let space = rw (← c.self.view_is) at c.in_ok-check_room.ensures in
     let idle = rw (← c.self.view_is) at c.requires.is_free in
     let was = rw (← c.self.view_is) at c.requires.is_enabled in
     let named = rw (← c.self.view_is) at c.requires.below in
-    (kept_disabled c.self.invariant c.args.b (search rules) named space idle was).follows.legal
+    (kept_disabled c.self.invariant.0 c.args.b (search rules) named space idle was).follows.legal
 
 pub append-requires-clause-counts : goal.append-requires-clause-counts
-append-requires-clause-counts g c = let v = book_view c.self.inside.seat in no_counts v.given v.front v.count_notes (Disabled c.args.b) refl refl
+append-requires-clause-counts c = let v = book_view c.self.inside.seat in no_counts v.given v.front v.count_notes (Disabled c.args.b) refl refl
 
 pub invariant_of-self : goal.invariant_of-self
-invariant_of-self g c =
+invariant_of-self c =
     let space = rw (← c.self.view_is) at c.in_ok-check_room.ensures in
     let idle = rw (← c.self.view_is) at c.requires.is_free in
     let was = rw (← c.self.view_is) at c.requires.is_enabled in
     let named = rw (← c.self.view_is) at c.requires.below in
-    rw c.append.ensures.book (kept_disabled c.self.invariant c.args.b (search rules) named space idle was)
+    let none = rw (← c.self.view_is) at c.requires.pending in
+    rw c.append.ensures.book (kept_disabled c.self.invariant.0 c.args.b (search rules) named space idle was, kept_for_none _ _ _ _ _ _ _ c.self.inside.pending none)
 
 pub returns-clause-still_gives : goal.returns-clause-still_gives
-returns-clause-still_gives g c = rw (← c.self.view_is, c.append.ensures.book) (next_after c.self.inside.greatest (book_view c.self.inside.seat) (Disabled c.args.b) refl)
+returns-clause-still_gives c = rw (← c.self.view_is, c.append.ensures.book) (next_after c.self.inside.greatest (book_view c.self.inside.seat) (Disabled c.args.b) refl)

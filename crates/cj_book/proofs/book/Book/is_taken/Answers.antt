@@ -4,6 +4,6 @@ use Rattle.cj_book.proofs.Marked.{has_name}
 use Rattle.cj_book.proofs.book.Book.is_taken.Goals as goal
 
 pub returns : goal.returns
-returns g c =
+returns c =
     let name = c.args.name.now in
-    rw (← c.self.view_is) (c.is_named.ensures ∙ (ap (list_any (has_name name)) (c.as_slice.ensures.value ∙ c.self.invariant.marked) ∙ sym (has_named (history c.self.inside.seat) name)))
+    rw (← c.self.view_is) (c.is_named.ensures ∙ (ap (list_any (has_name name)) (c.as_slice.ensures.value ∙ c.self.invariant.0.marked) ∙ sym (has_named (history c.self.inside.seat) name)))

@@ -16,13 +16,24 @@ invariant_of-result g c =
     let count : c.count.result ≡ length layout.names = c.count.ensures.count in
     let some : 0 < c.count.result = c.count.ensures.some in
     let most : c.count.result ≤ 16 = c.count.ensures.most in
-    let backends : (0 < length layout.names) × (length layout.names ≤ 16) = (omega arith, omega arith) in
+    let backends : (0 < length layout.names) × (length layout.names ≤ 16) = (omega arith, omega arith) in (
+      record {
+        history = rw done (keeps_opened layout items h opens (length layout.names) found.entries.items backends kept.entries);
+        follows = rw c.in-Ok-new.ensures (follows_opening layout items h opens found kept);
+        marked = kept.marked;
+        within = rw kept.greatest (greatest_within h opens.legal);
+        owned = rw (ap (λ (v : SeatView). v.given) c.in-Ok-recover.ensures.view ∙ c.requires.none.1) (All-nil _);
+      },
+      tt,
+    )
+
+pub returns-in-Ok-recover-clause-follows : goal.returns-in-Ok-recover-clause-follows
+returns-in-Ok-recover-clause-follows g c =
+    let faults = g.S.Store.faults in
+    let items = c.in-Ok.opened.1 in
+    let h = history c.recover.new.seat in
+    let opens = subst (λ (l : List LogItem). OpensTo l h) c.as_slice.ensures c.in-Ok-recover.ensures.opens in
     record {
-      history = rw done (keeps_opened layout items h opens (length layout.names) found.entries.items backends kept.entries);
-      follows = rw c.in-Ok-new.ensures (follows_opening layout items h opens found kept);
-      marked = kept.marked;
-      within = rw kept.greatest (greatest_within h opens.legal);
-      owned = rw (ap (λ (v : SeatView). v.given) c.in-Ok-recover.ensures.view ∙ c.requires.none.1) (All-nil _);
       logged = λ t. opens.same ∙ sym (c.in-Ok.ensures.bytes t).1;
       gate = gate_shut g.S.Store.tells c.in-Ok.opened.0.torn h (λ t. c.in-Ok.ensures.shut);
       faults = opening_counted h (faults c.of-opened_with.result.value) (faults c.in-Ok.opened.0.store) opens.opening (c.in-Ok.ensures.cause ∙ sym (ap faults c.of-opened_with.ensures));

@@ -1,40 +1,30 @@
-use Rattle.std.proofs.Common.{◌≡◌, subst}
-use Rattle.cj_book.proofs.Cited.{IsBeforeOrAfter, LeavesOnly, LogItem, Refuses, always, no_other, not_full, not_open, not_unserved, unchecked, unprepared}
+use Rattle.std.proofs.Common.{◌≡◌, ◌+◌, length, ap, sym, ◌∙◌, subst}
+use Rattle.cj_book.proofs.Cited.{BookState, LogFollows, entry_followed, log, scheduled, unbegun}
+use Rattle.cj_book.specs.Events.{entry_finished, finished_as}
 use Rattle.cj_book.proofs.book.Book.schedule_counted.Goals as goal
 
-pub returns-in_err-check_schedule-clause-state : goal.returns-in_err-check_schedule-clause-state
-returns-in_err-check_schedule-clause-state g c =
+pub returns-in_err-item-clause-state : goal.returns-in_err-item-clause-state
+returns-in_err-item-clause-state g c =
     let s = g.S.Store in
-    unchecked s.tells s.faults s.moment s.since s.may c.args.self.now.state c.legal.ensures.now c.args.e c.from_residual.result c.in_err-check_schedule.field-0.0 c.from_residual.ensures.1 c.in_err-check_schedule.ensures
-
-pub returns-in_err-prepared-clause-state : goal.returns-in_err-prepared-clause-state
-returns-in_err-prepared-clause-state g c =
-    let s = g.S.Store in
-    unprepared s.tells s.faults s.moment s.since s.may c.args.self.now.state c.legal.ensures.now c.args.e c.from_residual-in_err-prepared.result c.from_residual-in_err-prepared.ensures.1 c.in_ok-check_schedule.ensures
+    rw c.in_err-item.ensures.state
+    (unbegun s.tells s.faults s.moment s.since s.may c.args.self.now.state c.args.recovery_log.now.log c.legal.ensures.now c.args.e c.from_residual.result c.in_err-item.field-0.0 c.from_residual.ensures.1 c.in_err-item.ensures.begins)
 
 pub returns-clause-state : goal.returns-clause-state
 returns-clause-state g c =
     let s = g.S.Store in
-    let old = c.args.self.now.state.recovery_log in
-    let new = c.enter.new.self.state.recovery_log in
-    let can = c.in_ok-check_schedule.ensures in
-    let r = c.enter.result in
-    let i = c.enter.ensures in
-    let item = c.in_ok-prepared.ensures.item.0 in
-    record {
-      ok = i.ok;
-      number = i.number;
-      ready = always r can;
-      in_progress = not_open r i.want can;
-      no_backend = not_unserved r i.want can;
-      full = not_full r i.want can;
-      faulted = λ is. can;
-      log_fault = i.log_fault;
-      same = i.same;
-      checked = no_other r (c.enter.new.self.state ≡ c.args.self.now.state) i.want;
-      cause = i.cause;
-      memory = i.memory;
-      any_moment = λ t. subst (λ (x : LogItem). LeavesOnly s.moment s.since old.store new.store (IsBeforeOrAfter old x)) item (i.any_moment t);
-      refused = λ t. subst (λ (x : LogItem). Refuses old x new r) item (i.refused t);
-      safe = i.safe;
-    }
+    let a = c.append-appended.ensures in
+    let same = c.in_ok-item.ensures.state in
+    let appended = c.append-appended.result in
+    scheduled s.tells s.faults s.moment s.since s.may c.args.self.now.state c.args.recovery_log.now.log c.append-appended.new.self.log c.requires.follows.logged c.args.e c.in_ok-item.ensures.begins.ready c.in_ok-item.item appended c.finish_entry.result c.finish_entry.new.self.state
+    c.in_ok-item.ensures.item.0 a.items a.cause a.memory a.any_moment a.refused a.safe (c.finish_entry.ensures.answer ∙ ap (λ (b : BookState). finished_as appended (length (log b.history) + 1)) same) (c.finish_entry.ensures.state ∙ ap (λ (b : BookState). entry_finished b c.args.e appended) same)
+
+pub returns-clause-follows : goal.returns-clause-follows
+returns-clause-follows g c =
+    let s = g.S.Store in
+    let a = c.append-appended.ensures in
+    let old = c.args.self.now.state in
+    let e = c.args.e in
+    let appended = c.append-appended.result in
+    let state = c.finish_entry.ensures.state ∙ ap (λ (b : BookState). entry_finished b e appended) c.in_ok-item.ensures.state in
+    subst (λ (b : BookState). LogFollows s.tells s.faults c.append-appended.new.self b.history) (sym state)
+    (entry_followed s.tells s.faults c.append-appended.new.self old e appended (a.follows_entry old.history e c.requires.follows c.in_ok-item.ensures.item.0) (a.follows_fault old.history e.session e.seq c.requires.follows) (a.follows_want old.history c.requires.follows))

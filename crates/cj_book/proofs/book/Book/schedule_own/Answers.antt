@@ -9,7 +9,7 @@ schedule_counted-result-requires-clause-counted g c =
     let e = c.args.e in
     let book = c.tell.new.self in
     let w = pass_view c.check_count.new.p in
-    let same : book.state.history ≡ c.args.self.now.state.history = ap (λ (b : BookState _). b.history) c.tell.ensures.state in
+    let same : book.state.history ≡ c.args.self.now.state.history = ap (λ (b : BookState). b.history) c.tell.ensures.state in
     let legal = subst (λ (h : List Event). IsLegal h) (sym same) c.legal.ensures.legal in
     let own_before = ap (λ (v : SeatView). v.own_session) c.tell.ensures.pass ∙ c.requires.own.0 in
     let own = ap (λ (v : SeatView). v.own_session) c.check_count.ensures.pass ∙ own_before in
@@ -26,7 +26,7 @@ schedule_counted-result-requires-clause-given g c =
     let given = c.tell.ensures.given in
     let own = c.requires.own.0 in
     let le : c.args.e.session ≤ c.args.self.now.state.greatest = omega (arith, own, given, low) in
-    inl (c.requires.own.1, subst (λ n. c.args.e.session ≤ n) (sym (ap (λ (b : BookState _). b.greatest) c.tell.ensures.state)) le)
+    inl (c.requires.own.1, subst (λ n. c.args.e.session ≤ n) (sym (ap (λ (b : BookState). b.greatest) c.tell.ensures.state)) le)
 
 pub put_back-requires : goal.put_back-requires
 put_back-requires g c = record { some = still_own (event_or_fault (Sched c.args.e) (LogFailed c.args.e.session c.args.e.seq) c.schedule_counted-result.result) c.tell.new.self.view c.taken-counter.ensures.own c.schedule_counted-result.ensures.own }
@@ -73,7 +73,7 @@ returns-clause-still_gives g c =
     let w = pass_view c.args.p.now in
     let pass = c.check_count.ensures.pass ∙ c.tell.ensures.pass in
     let is = scheduled_own old.view w c.tell.new.self.view (pass_view c.check_count.new.p) c.schedule_counted-result.new.self.view (pass_view c.put_back.new.p) _ _ o c.tell.ensures.book pass c.taken-counter.ensures.own i.seat i.own c.put_back.ensures.own in
-    let same = schedules_greatest c.tell.new.self.state e c.schedule_counted-result.result c.schedule_counted-result.new.self.state i.state.ok i.state.log_fault i.state.same ∙ ap (λ (b : BookState _). b.greatest) c.tell.ensures.state in
+    let same = schedules_greatest c.tell.new.self.state e c.schedule_counted-result.result c.schedule_counted-result.new.self.state i.state.ok i.state.log_fault i.state.same ∙ ap (λ (b : BookState). b.greatest) c.tell.ensures.state in
     let next = own_gives (told_book old.view w) (told_pass old.view w) old.state.greatest o (low_sessions old.state.greatest e c.schedule_counted-result.result (omega (arith, own, given, low))) gives in
     subst (λ (x : ℕ × SeatView). x.0 + 1 ≡ next_session x.1) (λ k. (sym same k, sym is.0 k)) next
 
@@ -82,5 +82,5 @@ returns-clause-seen g c =
     let i = c.schedule_counted-result.ensures.state in
     let before : IsPrefix (pass_view c.args.p.now).front c.args.self.now.state.history = subst (λ (h : List Event). IsPrefix (pass_view c.args.p.now).front h) c.tell.ensures.told c.tell.ensures.longer in
     let grown = schedules_longer c.tell.new.self.state c.args.e c.schedule_counted-result.result c.schedule_counted-result.new.self.state i.ok i.log_fault i.same in
-    let longer = subst (λ (h : List Event). IsPrefix h c.schedule_counted-result.new.self.state.history) (ap (λ (b : BookState _). b.history) c.tell.ensures.state) grown in
+    let longer = subst (λ (h : List Event). IsPrefix h c.schedule_counted-result.new.self.state.history) (ap (λ (b : BookState). b.history) c.tell.ensures.state) grown in
     (before, prefix_trans _ _ _ before (subst (λ (h : List Event). IsPrefix c.args.self.now.state.history h) (sym (returns-clause-told g c)) longer))

@@ -5,7 +5,7 @@ use Rattle.cj_book.proofs.recovered.Recovered.follow.Goals as goal
 pub add_entry-requires : goal.add_entry-requires
 add_entry-requires c =
     let k = c.requires.so_far in
-    numbers_before (placement_of c.args.placement.now) (log (history c.args.seat.now)) c.args.self.now.transactions (length c.args.self.now.entries.items) c.in-Sched.boxed k.transactions (ap length k.entries)
+    numbers_before (placement_of c.args.placement.now) (log (history c.args.seat.now)) c.args.self.now.transactions.list (length c.args.self.now.entries.items + 1) c.in-Sched.boxed k.transactions (ap (λ n. n + 1) (ap length k.entries))
 
 pub returns-in-Sched-clause-kept : goal.returns-in-Sched-clause-kept
 returns-in-Sched-clause-kept c =

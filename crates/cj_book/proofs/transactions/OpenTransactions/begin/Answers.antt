@@ -1,5 +1,11 @@
+use Rattle.std.proofs.Common.{arith}
 use Rattle.cj_book.proofs.Cited.{new_tx, rises_push, tx_number}
 use Rattle.cj_book.proofs.transactions.OpenTransactions.begin.Goals as goal
 
-pub invariant_of-self-2 : goal.invariant_of-self-2
-invariant_of-self-2 c = rw c.in_ok-push.ensures.items (rises_push tx_number c.self.inside.open.items (new_tx c.args.number c.args.session) (rw c.self.view_is c.requires) c.self.invariant)
+pub invariant_of-self : goal.invariant_of-self
+invariant_of-self c =
+    let above = rw (← c.self.view_is) at c.requires.above in
+    rw c.push_reserved.ensures.items (rises_push tx_number c.self.inside.open.items (new_tx c.args.number c.args.session) above c.self.invariant)
+
+pub push_reserved-requires : goal.push_reserved-requires
+push_reserved-requires c = let place = rw (← c.self.view_is) at c.requires.place in omega (arith, place)

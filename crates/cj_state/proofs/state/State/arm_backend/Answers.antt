@@ -14,7 +14,7 @@ invariant_of-self g c =
     let ch = c.arm_at.ensures.armed in
     let seats = c.self.invariant.3 in
     let kept = kept_asked c.self.invariant.0 c.self.view_is c.requires ch (asked_alike g.B.Backend.can_be_armed ch.before ch.after ch.how) in
-    (kept, c.self.invariant.1, c.self.invariant.2, (record { of_pass = seats.0.of_pass; of_book = seats.0.of_book; of_cells = c.arm_at.ensures.boards _ seats.0.of_cells }, seats.1))
+    (kept, c.self.invariant.1, c.self.invariant.2, (record { of_pass = seats.0.of_pass; of_book = seats.0.of_book; of_cells = c.arm_at.ensures.boards _ seats.0.of_cells }, seats.1), c.self.invariant.4)
 
 pub returns-clause-core : goal.returns-clause-core
 returns-clause-core g c = let ch = c.arm_at.ensures.armed in same_core c.self.invariant.0 c.self.view_is c.requires ch (asked_alike g.B.Backend.can_be_armed ch.before ch.after ch.how)

@@ -1,4 +1,4 @@
-use Rattle.std.proofs.Common.{◌≡◌, None, Ok, ap, sym, subst}
+use Rattle.std.proofs.Common.{◌≡◌, ◌∙◌, None, Ok, ap, sym, subst}
 use Rattle.cj_state.proofs.Cited.{Applied, Tally, Applies, Apply, CanApply, WorldState, applies, can_apply, can_take, core_of, kept_applied, not_now, position_at, position_or_zero, ready_taken, states_of, took_armings, took_counts, took_logins, took_asks, took_others}
 use Rattle.cj_state.proofs.state.State.catch_up_open.Goals as goal
 
@@ -14,7 +14,7 @@ invariant_of-self g c =
     let can : CanApply (core_of w.book.state.layout w.book.state.history (states_of w.cells.items) w.tally.failed w.tally.starved w.sessions w.book.state.greatest w.dumps) c.args.b = can_apply _ c.args.b (subst (λ (x : WorldState). not_now x.core (Apply c.args.b) ≡ None) (sym c.self.view_is) c.requires.now) in
     let ready = ready_taken w.book c.take-did.new.book w.tally.failed c.args.b c.take-did.result c.self.invariant.3.1 c.take-did.ensures.heard c.take-did.ensures.token in
     rw (c.take-did.ensures.heard.state, c.took.ensures.report)
-    (kept_applied g.B.Backend.tells w.accounts w.book.state.layout w.book.state.history (states_of w.cells.items) w.tally.failed w.tally.starved w.sessions w.book.state.greatest w.dumps w.book.state.sessions w.tally c.self.invariant.0 c.args.b c.take-did.result (states_of c.take-did.new.cells.items) c.take-did.ensures.took can.is_running can.on, c.self.invariant.1, c.self.invariant.2, (c.take-did.ensures.at, ready))
+    (kept_applied g.B.Backend.tells w.accounts w.book.state.layout w.book.state.history (states_of w.cells.items) w.tally.failed w.tally.starved w.sessions w.book.state.greatest w.dumps w.book.state.sessions w.tally c.self.invariant.0 c.args.b c.take-did.result (states_of c.take-did.new.cells.items) c.take-did.ensures.took can.is_running can.on, c.self.invariant.1, c.self.invariant.2, (c.take-did.ensures.at, ready), (c.self.invariant.4.0, c.take-did.ensures.heard.pending ∙ c.self.invariant.4.1))
 
 pub returns-clause-applies : goal.returns-clause-applies
 returns-clause-applies g c =

@@ -14,7 +14,7 @@ invariant_of-self g c =
     let ch = c.contents_at.ensures.asked in
     let seats = c.self.invariant.3 in
     let kept = kept_asked c.self.invariant.0 c.self.view_is c.requires ch (asked_alike ch.before ch.after ch.how.same) in
-    (kept, c.self.invariant.1, c.self.invariant.2, (record { of_pass = seats.0.of_pass; of_book = seats.0.of_book; of_cells = c.contents_at.ensures.at }, seats.1))
+    (kept, c.self.invariant.1, c.self.invariant.2, (record { of_pass = seats.0.of_pass; of_book = seats.0.of_book; of_cells = c.contents_at.ensures.at }, seats.1), c.self.invariant.4)
 
 pub returns-clause-core : goal.returns-clause-core
 returns-clause-core g c = let ch = c.contents_at.ensures.asked in same_core c.self.invariant.0 c.self.view_is c.requires ch (asked_alike ch.before ch.after ch.how.same)

@@ -29,6 +29,7 @@ returns-clause-parts g c =
             balance = refl;
           };
       front = c.legal.ensures.front;
+      pending = c.self.invariant.4.1;
       unowned = ready.unowned;
       gives = gives_next w.book c.legal.ensures.front ready.none_given;
       cells = refl;

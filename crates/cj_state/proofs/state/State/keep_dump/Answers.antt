@@ -32,4 +32,5 @@ invariant_of-self-2 g c =
       c.self.invariant.1,
       dumps_push tells w.accounts w.book.state.layout w.book.state.history (states_of w.cells.items) w.tally.failed w.tally.starved w.sessions w.book.state.greatest w.dumps w.book.state.sessions w.tally c.self.invariant.0 d at held c.self.invariant.2,
       c.self.invariant.3,
+      c.self.invariant.4,
     )

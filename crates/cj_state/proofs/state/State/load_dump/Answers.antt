@@ -31,7 +31,7 @@ invariant_of-self g c =
     let can = loads_from c.self.invariant.0 seen c.args.name.now c.in_ok-position.field-0 c.requires.now was.found was.held in
     let ch = c.in_err-load_at.ensures.loaded in
     rw c.load_at.ensures.heard.state
-    (kept_refused c.self.invariant.0 seen c.requires.within can ch ch.how.place ch.how.refused, c.self.invariant.1, c.self.invariant.2, (c.load_at.ensures.at, ready_heard c.self.inside.book c.load_at.new.book c.self.inside.tally.failed c.self.invariant.3.1 c.load_at.ensures.heard))
+    (kept_refused c.self.invariant.0 seen c.requires.within can ch ch.how.place ch.how.refused, c.self.invariant.1, c.self.invariant.2, (c.load_at.ensures.at, ready_heard c.self.inside.book c.load_at.new.book c.self.inside.tally.failed c.self.invariant.3.1 c.load_at.ensures.heard), (c.self.invariant.4.0, c.load_at.ensures.heard.pending ∙ c.self.invariant.4.1))
 
 pub returns-in_err-load_at-clause-err : goal.returns-in_err-load_at-clause-err
 returns-in_err-load_at-clause-err g c =
@@ -61,7 +61,7 @@ invariant_of-self-2 g c =
     let can = loads_from c.self.invariant.0 seen c.args.name.now c.in_ok-position.field-0 c.requires.now was.found was.held in
     let ch = c.in_ok-load_at.ensures.loaded in
     rw c.load_at.ensures.heard.state
-    (kept_loaded c.self.invariant.0 seen c.requires.within can ch ch.how.place, c.self.invariant.1, c.self.invariant.2, (c.load_at.ensures.at, ready_heard c.self.inside.book c.load_at.new.book c.self.inside.tally.failed c.self.invariant.3.1 c.load_at.ensures.heard))
+    (kept_loaded c.self.invariant.0 seen c.requires.within can ch ch.how.place, c.self.invariant.1, c.self.invariant.2, (c.load_at.ensures.at, ready_heard c.self.inside.book c.load_at.new.book c.self.inside.tally.failed c.self.invariant.3.1 c.load_at.ensures.heard), (c.self.invariant.4.0, c.load_at.ensures.heard.pending ∙ c.self.invariant.4.1))
 
 pub returns-clause-ok : goal.returns-clause-ok
 returns-clause-ok g c =

@@ -1,5 +1,5 @@
 use Rattle.std.proofs.Common.{◌≡◌, arith, inr, Ok, Err, true, ap, sym, ◌∙◌, subst, refl, Some}
-use Rattle.cj_state.proofs.Cited.{Entry, FollowsLog, IsFitEntry, LogFailed, Sched, SchedulesAs, WorldState, abort_entry, board_id, counted, dumps_entry, event_or_fault, follows_scheduled, follows_unscheduled, fresh_entry, is_orphan, kept_aborted, kept_unscheduled, log, not_scheduled, orphan_is, pass_board, placement_of, quiet_or_fault, scheduled_as, seats_after, seats_cleared, states_of}
+use Rattle.cj_state.proofs.Cited.{Entry, FollowsLog, IsFitEntry, LogFailed, Sched, SchedulesAs, WorldState, abort_entry, board_id, counted, dumps_entry, event_or_fault, follows_scheduled, follows_unscheduled, fresh_entry, is_orphan, kept_aborted, kept_unscheduled, log, not_scheduled, orphan_is, pass_board, placement_of, quiet_or_fault, scheduled_as, seats_after, seats_cleared, states_of, BookState, LogFollows}
 use Rattle.cj_state.proofs.state.State.schedule_abort.Goals as goal
 
 pub schedule-requires-clause-known : goal.schedule-requires-clause-known
@@ -16,7 +16,7 @@ invariant_of-self g c =
     let fits = subst (λ (x : WorldState). IsFitEntry (log x.core.history) c.args.entry) (sym c.self.view_is) c.requires.fits in
     let ready = c.in-Ok.ensures.state.ready in
     rw (c.in-Ok.ensures.state.ok, c.new-self-inside.ensures)
-    (kept_aborted g.B.Backend.tells w.accounts w.book.state.layout w.book.state.history (states_of w.cells.items) w.tally.failed w.tally.starved w.sessions w.book.state.greatest w.dumps w.book.state.sessions w.tally c.self.invariant.0 c.args.entry orphan is ready.is_free fits ready.space ready.served, fresh_entry w.book.state.history w.book.state.cache g.B.Backend.tells c.args.entry c.self.invariant.1, dumps_entry g.B.Backend.tells (placement_of w.book.state.layout) w.book.state.history w.dumps c.self.invariant.2 c.args.entry, seats_cleared (board_id w.board) (pass_board w.pass) w.book c.schedule.new.self w.cells.items w.tally.failed c.self.invariant.3.0 c.self.invariant.3.1 (Some (Sched c.args.entry)) c.in-Ok.ensures.board c.in-Ok.ensures.seat)
+    (kept_aborted g.B.Backend.tells w.accounts w.book.state.layout w.book.state.history (states_of w.cells.items) w.tally.failed w.tally.starved w.sessions w.book.state.greatest w.dumps w.book.state.sessions w.tally c.self.invariant.0 c.args.entry orphan is ready.is_free fits ready.space ready.served, fresh_entry w.book.state.history w.book.state.cache g.B.Backend.tells c.args.entry c.self.invariant.1, dumps_entry g.B.Backend.tells (placement_of w.book.state.layout) w.book.state.history w.dumps c.self.invariant.2 c.args.entry, seats_cleared (board_id w.board) (pass_board w.pass) w.book c.schedule.new.self w.cells.items w.tally.failed c.self.invariant.3.0 c.self.invariant.3.1 (Some (Sched c.args.entry)) c.in-Ok.ensures.board c.in-Ok.ensures.seat, (subst (λ (k : BookState). LogFollows g.S.Store.tells g.S.Store.faults c.schedule.new.recovery_log k.history) c.in-Ok.ensures.state.ok c.schedule.ensures.follows, c.schedule.ensures.pending ∙ c.self.invariant.4.1))
 
 pub returns-in-Ok-clause-scheduled : goal.returns-in-Ok-clause-scheduled
 returns-in-Ok-clause-scheduled g c =
@@ -36,7 +36,7 @@ invariant_of-self-in-Err g c =
     let session : e.session ≡ 0 = ap (λ (d : Entry). d.session) c.requires.is in
     let q = kept_unscheduled c.schedule.ensures.state w.accounts (states_of w.cells.items) w.tally.failed w.tally.starved w.sessions w.dumps w.tally g.B.Backend.tells c.in-Err.error c.in-Err.is
     (c.self.invariant.0, c.self.invariant.1, c.self.invariant.2) (omega arith) (λ some. absurd (omega (arith, some))) in
-    (q.0, q.1, q.2, seats_after (board_id w.board) (pass_board w.pass) w.book c.schedule.new.self w.cells.items w.tally.failed c.self.invariant.3.0 c.self.invariant.3.1 (event_or_fault (Sched e) (LogFailed e.session e.seq) c.schedule.result) (quiet_or_fault (Sched e) (LogFailed e.session e.seq) c.schedule.result (λ b. refl) (λ b. refl)) c.schedule.ensures.board c.schedule.ensures.seat)
+    (q.0, q.1, q.2, seats_after (board_id w.board) (pass_board w.pass) w.book c.schedule.new.self w.cells.items w.tally.failed c.self.invariant.3.0 c.self.invariant.3.1 (event_or_fault (Sched e) (LogFailed e.session e.seq) c.schedule.result) (quiet_or_fault (Sched e) (LogFailed e.session e.seq) c.schedule.result (λ b. refl) (λ b. refl)) c.schedule.ensures.board c.schedule.ensures.seat, (c.schedule.ensures.follows, c.schedule.ensures.pending ∙ c.self.invariant.4.1))
 
 pub schedule-requires-clause-counted : goal.schedule-requires-clause-counted
 schedule-requires-clause-counted g c =

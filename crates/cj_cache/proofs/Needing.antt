@@ -1,25 +1,22 @@
--- The statements that the lists of a set's tables name are those that a change of them drops, and without these the others are left.
-use Rattle.std.proofs.Common.{◌≡◌, ℕ, Bool, true, false, ◌&&◌, ◌||◌, cond, not, List, [], ◌∷◌, ◌++◌, filter, map, slice_index_or, refl, sym, subst, ap, ◌∙◌, ⊎_elim}
-use Rattle.std.specs.Prelude.{◌↔◌, All, Contains, IfSome, find, is_some}
-use Rattle.std.specs.Cmp.{both_ways as same_answer}
+-- The lists of a set's tables name each kept statement that needs one of them: without these, the other entries are left.
+use Rattle.std.proofs.Common.{◌≡◌, ℕ, Bool, true, false, ◌&&◌, ◌||◌, cond, not, ◌<◌, List, [], ◌∷◌, ◌++◌, filter, get_or, length, map, slice_index_or, refl, sym, subst, ap, ◌∙◌, ⊎_elim}
+use Rattle.std.specs.Prelude.{All, IfSome, find, is_some}
 use Rattle.std.specs.List.{IsDistinct, cons_option, list_any}
 use Rattle.std.specs.declared.option.Option.{Option}
 use Rattle.std.specs.declared.option.Option.TheVariants.{None, Some}
-use Rattle.std.proofs.Math.Bool.{and-true, or-false, or-true, or_assoc}
+use Rattle.std.proofs.Math.Bool.{and-true, or-true}
 use Rattle.std.proofs.lemmas.Bool.{and_parts, both_ways, cases_Bool, false_from_ne_true, or_parts}
-use Rattle.std.proofs.lemmas.List.Elements.{All-cons, All-contains, All-from_recursion, All-head, All-nil, All-tail}
-use Rattle.std.proofs.lemmas.List.Folds.{Any-from_list_any, list_any-append, list_any_at}
+use Rattle.std.proofs.lemmas.List.Elements.{All-cons, All-contains, All-from_recursion, All-head, All-nil, All-tail, All-weaker}
+use Rattle.std.proofs.lemmas.List.Folds.{Any-from_list_any, list_any-append, list_any_at, list_any_none}
 use Rattle.std.proofs.lemmas.Map.Keys.{IsDistinct-head, IsDistinct-tail}
-use Rattle.std.proofs.lemmas.Map.Views.{Contains-from_any, any-filter_same, list_any-from_Contains}
+use Rattle.std.proofs.lemmas.Map.Views.{any-filter_same}
 use Rattle.std.proofs.lemmas.Slice.Eq.{bytes_eq-Decides}
 use Rattle.cj_cache.proofs.Common.{Cached, Select, bytes_eq, without_each}
-use Rattle.indexmap.specs.IndexSet.{insert_all, insert_key}
 use Rattle.cj_model.specs.Cluster.Caching.{cached_entry, is_entry_for, needs_one_of, without}
-use Rattle.cj_model.specs.Proving.SameStatements.{same_statement, same_statement-Decides, statement_equiv}
+use Rattle.cj_model.specs.Proving.SameStatements.{same_statement, same_statement-Decides}
 use Rattle.cj_model.proofs.CachingLaws.{all_looked, none_without}
 use Rattle.cj_model.proofs.FilterLaws.{filter_goes, filter_stays, found_passes}
 use Rattle.cj_model.proofs.RisingLaws.{found_All}
-use Rattle.cj_cache.specs.Doomed.{HaveSame}
 use Rattle.cj_cache.specs.Proving.ByTable.{AreListed, ByTable, IsListed, all_listed, is_due, listed, lists}
 use Rattle.cj_cache.proofs.Maps.{none_left}
 
@@ -47,36 +44,7 @@ names ss s = list_any (same_statement s) ss
 same : (s t : Select) → same_statement s t ≡ true → s ≡ t
 same s t = (same_statement-Decides s t).0
 
-names_both : (ss ts : List Select) (s : Select) → names ss s ≡ names ts s → Contains ss s ↔ Contains ts s
-names_both ss ts s e = (
-  λ is. Contains-from_any same s ts (sym e ∙ list_any-from_Contains statement_equiv s ss is),
-  λ is. Contains-from_any same s ss (e ∙ list_any-from_Contains statement_equiv s ts is),
-)
-
--- a set names what was put in
-names_put : (s : Select) (ss : List Select) (t : Select) → names (insert_key same_statement ss t) s ≡ (names ss s || same_statement s t)
-names_put s ss t = from (names ss t) refl (same_statement s t) refl
-  where
-    from : (there : Bool) → names ss t ≡ there → (is : Bool) → same_statement s t ≡ is → names (cond there ss (ss ++ t ∷ [])) s ≡ (names ss s || is)
-    from true there true is = subst (λ q. names ss q ≡ (names ss q || true)) (sym (same s t is)) (there ∙ sym (ap (λ b. b || true) there))
-    from true there false is = sym (or-false (names ss s))
-    from false there is e = list_any-append (same_statement s) ss (t ∷ []) ∙ ap (λ b. names ss s || b) (or-false (same_statement s t) ∙ e)
-
-names_all_put : (s : Select) (ss ts : List Select) → names (insert_all same_statement ss ts) s ≡ (names ss s || names ts s)
-names_all_put s ss [] = sym (or-false (names ss s))
-names_all_put s ss (t ∷ ts) = names_all_put s (insert_key same_statement ss t) ts ∙ ap (λ b. b || names ts s) (names_put s ss t) ∙ or_assoc (names ss s) (same_statement s t) (names ts s)
-
--- the kept statements that need one of the tables
-abbrev pub doomed_of : List (List ℕ) → List Cached → List Select
-doomed_of set entries = map (λ (e : Cached). e.select) (filter (λ (e : Cached). needs_one_of set e.select) entries)
-
 module _ (set : List (List ℕ)) (entries : List Cached) where
-  names_doomed : (s : Select) → names (doomed_of set entries) s ≡ is_due set entries s
-  names_doomed s =
-      any-map (same_statement s) (λ (e : Cached). e.select) (filter (λ (e : Cached). needs_one_of set e.select) entries)
-      ∙ any-filter_same (is_entry_for s) (λ (e : Cached). needs_one_of set e.select) (needs_one_of set s) (λ e is. ap (needs_one_of set) (sym (same s e.select is))) entries
-      ∙ ap (λ b. needs_one_of set s && b) (sym (some-find (is_entry_for s) entries))
-
   module _ {S T : Type 0} (m : ByTable S T) where
     -- each of its tables lists a kept statement
     kept_listed : (s : Select) → AreListed m entries → is_some (cached_entry s entries) ≡ true → All (λ table. lists m table s ≡ true) s.tables
@@ -102,26 +70,15 @@ module _ (set : List (List ℕ)) (entries : List Cached) where
         let needed = Any-from_list_any (λ name. list_any (λ table. bytes_eq table name) set) s.tables both.0 in
         among_listed s needed.1 (All-contains (λ table. lists m table s ≡ true) s.tables needed.1 (kept_listed s all both.1) (needed.0, needed.2, needed.3)) set needed.4
 
-    -- so what is due of what the tables list is doomed
-    pub due_doomed : (found : List Select) → found ≡ insert_all same_statement [] (filter (is_due set entries) (all_listed m set)) → AreListed m entries → HaveSame found (doomed_of set entries)
-    unfolding HaveSame
-    due_doomed found is all s = names_both found (doomed_of set entries) s
-        (ap (λ ss. names ss s) is ∙ names_all_put s [] (filter (is_due set entries) (all_listed m set))
-        ∙ any-filter_same (same_statement s) (is_due set entries) (is_due set entries s) (λ t same_one. ap (is_due set entries) (sym (same s t same_one))) (all_listed m set)
-        ∙ absorbed (is_due set entries s) (names (all_listed m set) s) (due_listed s all)
-        ∙ sym (names_doomed s))
+    -- so of what the tables list, those that need one of them are the kept ones that do
+    needing_listed : (s : Select) → AreListed m entries → is_some (cached_entry s entries) ≡ true → names (filter (needs_one_of set) (all_listed m set)) s ≡ needs_one_of set s
+    needing_listed s all kept =
+        any-filter_same (same_statement s) (needs_one_of set) (needs_one_of set s) (λ t same_one. ap (needs_one_of set) (sym (same s t same_one))) (all_listed m set)
+        ∙ absorbed (needs_one_of set s) (names (all_listed m set) s) (λ needs. due_listed s all (ap (λ b. needs_one_of set s && b) kept ∙ (and-true (needs_one_of set s) ∙ needs)))
       where
         absorbed : (a b : Bool) → (a ≡ true → b ≡ true) → (a && b) ≡ a
         absorbed true b h = h refl
         absorbed false b h = refl
-
-pub none_same : HaveSame [] []
-unfolding HaveSame
-none_same s = (λ is. is, λ is. is)
-
-pub none_differ : IsDistinct same_statement []
-unfolding IsDistinct
-none_differ = tt
 
 -- ---- dropping
 
@@ -176,13 +133,31 @@ module _ (set : List (List ℕ)) where
       stays x ss xs (here ∙ fine) ∙ ap (λ r. x ∷ r) rest ∙ sym (filter_stays (λ e. not (needs e)) x xs (ap not fine)))
       (cases_Bool (needs x))
 
-  -- without the statements that need one of the tables, in whatever order, the others are left
-  pub doomed_dropped : (ss : List Select) (xs : List Cached) → IsDistinct same_statement (map (λ (e : Cached). e.select) xs) → HaveSame ss (doomed_of set xs) → without_each ss xs ≡ filter (λ e. not (needs e)) xs
-  unfolding HaveSame
-  doomed_dropped ss xs distinct doomed = each_dropped ss xs distinct (λ k d lt. let e = slice_index_or xs k d in
-      same_answer _ _
-      (λ is. list_any-from_Contains statement_equiv e.select (doomed_of set xs) ((doomed e.select).0 (Contains-from_any same e.select ss is)))
-      (λ is. list_any-from_Contains statement_equiv e.select ss ((doomed e.select).1 (Contains-from_any same e.select (doomed_of set xs) is)))
-      ∙ names_doomed set xs e.select
-      ∙ ap (λ b. needs e && b) (some-find (is_entry_for e.select) xs ∙ list_any_at (is_entry_for e.select) xs k d lt ((same_statement-Decides e.select e.select).1 refl))
-      ∙ and-true (needs e))
+  -- without the statements that are listed and need one of the tables, the others are left
+  pub needing_dropped : {S T : Type 0} (m : ByTable S T) (xs : List Cached) → IsDistinct same_statement (map (λ (e : Cached). e.select) xs) → AreListed m xs → without_each (filter (needs_one_of set) (all_listed m set)) xs ≡ filter (λ e. not (needs e)) xs
+  needing_dropped m xs distinct all = each_dropped (filter (needs_one_of set) (all_listed m set)) xs distinct (λ k d lt. let e = slice_index_or xs k d in
+      needing_listed set xs m e.select all (some-find (is_entry_for e.select) xs ∙ list_any_at (is_entry_for e.select) xs k d lt ((same_statement-Decides e.select e.select).1 refl)))
+
+  -- what is left needs none of them
+  pub none_needs : (xs : List Cached) → All (λ e. needs_one_of set e.select ≡ false) (filter (λ e. not (needs e)) xs)
+  none_needs [] = All-nil (λ e. needs_one_of set e.select ≡ false)
+  none_needs (x ∷ xs) = from (needs x) refl (none_needs xs)
+    where
+      from : (b : Bool) → needs x ≡ b → All (λ e. needs_one_of set e.select ≡ false) (filter (λ e. not (needs e)) xs) → All (λ e. needs_one_of set e.select ≡ false) (cond (not b) (x ∷ filter (λ e. not (needs e)) xs) (filter (λ e. not (needs e)) xs))
+      from true is rest = rest
+      from false is rest = All-cons (λ e. needs_one_of set e.select ≡ false) x (filter (λ e. not (needs e)) xs) is rest
+
+-- who needs none of some tables doesn't need one of them
+pub one_unneeded : (set : List (List ℕ)) (k : ℕ) (d : List ℕ) → k < length set → (s : Select) → needs_one_of set s ≡ false → list_any (bytes_eq (get_or set k d)) s.tables ≡ false
+one_unneeded set k d lt s none = list_any_none (bytes_eq (get_or set k d)) s.tables (each s.tables none)
+  where
+    each : (names : List (List ℕ)) → list_any (λ name. list_any (λ table. bytes_eq table name) set) names ≡ false → All (λ n. bytes_eq (get_or set k d) n ≡ false) names
+    each [] none = All-nil (λ n. bytes_eq (get_or set k d) n ≡ false)
+    each (n ∷ ns) none =
+        let parts = or_parts (list_any (λ table. bytes_eq table n) set) (list_any (λ name. list_any (λ table. bytes_eq table name) set) ns) none in
+        All-cons (λ n. bytes_eq (get_or set k d) n ≡ false) n ns
+        (false_from_ne_true (bytes_eq (get_or set k d) n) (λ is. both_ways (list_any (λ t. bytes_eq t n) set) parts.0 (list_any_at (λ t. bytes_eq t n) set k d lt is)))
+        (each ns parts.1)
+
+pub one_unneeded_by_all : (set : List (List ℕ)) (k : ℕ) (d : List ℕ) → k < length set → (xs : List Cached) → All (λ e. needs_one_of set e.select ≡ false) xs → All (λ e. list_any (bytes_eq (get_or set k d)) e.select.tables ≡ false) xs
+one_unneeded_by_all set k d lt xs = All-weaker (λ e. needs_one_of set e.select ≡ false) (λ e. list_any (bytes_eq (get_or set k d)) e.select.tables ≡ false) (λ e. one_unneeded set k d lt e.select) xs
