@@ -80,6 +80,9 @@ module _ {T : Type 0} (old : BookState) (a : Act) where
 
 -- ---- a marker begins
 
+has_room : (old : BookState) → 0 < events_left old.history → (n : ℕ) → HasNoRoomForOne old n → ⊥
+has_room old space n p = let none : events_left old.history < 1 = p.full in absurd (omega arith)
+
 module _ {T : Type 0} (old : BookState) where
   pub begins_full : (r : Result T BookError) (d : BookError) → IsErrAnd r (λ x. x ≡ d) → HasRoom {T = Unit} old (Err d) → BeginsMarker old r
   begins_full (Ok x) d is p = absurd is
@@ -94,14 +97,11 @@ module _ {T : Type 0} (old : BookState) where
   begins_full (Err x) LogFault is p = absurd p
   begins_full (Err x) NoMemory is p = absurd p
 
-  has_room : 0 < events_left old.history → (n : ℕ) → HasNoRoomForOne old n → ⊥
-  has_room space n p = let none : events_left old.history < 1 = p.full in absurd (omega arith)
-
   pub begins_wanting : (r : Result T BookError) → IsErrAnd r (λ x. x ≡ NoMemory) → 0 < events_left old.history → BeginsMarker old r
   begins_wanting (Ok x) is space = absurd is
   begins_wanting (Err x) is space = subst (λ (y : BookError). BeginsMarker {T = T} old (Err y)) (sym is) (record {
     space = tt;
-    full = λ m. (λ is. absurd (cc is), λ q. absurd (has_room space m q));
+    full = λ m. (λ is. absurd (cc is), λ q. absurd (has_room old space m q));
     want = tt;
     memory = λ is. space;
   })
@@ -109,7 +109,7 @@ module _ {T : Type 0} (old : BookState) where
   pub marker_begun : (x : T) → 0 < events_left old.history → BeginsMarker old (Ok x)
   marker_begun x space = record {
     space = space;
-    full = λ n. (λ is. absurd (cc is), λ q. absurd (has_room space n q));
+    full = λ n. (λ is. absurd (cc is), λ q. absurd (has_room old space n q));
     want = tt;
     memory = λ is. absurd (cc is);
   }

@@ -1,7 +1,16 @@
 use Rattle.std.proofs.Common.{◌≡◌, ◌+◌, length, ap, sym, ◌∙◌, subst}
-use Rattle.cj_book.proofs.Cited.{BookState, LogFollows, entry_followed, log, scheduled, unbegun}
+use Rattle.cj_book.proofs.Cited.{BookState, HasCountNotes, LogFailed, LogFollows, Sched, SeatView, entry_followed, hearing, log, own_view, scheduled, unbegun}
 use Rattle.cj_book.specs.Events.{entry_finished, finished_as}
 use Rattle.cj_book.proofs.book.Book.schedule_counted.Goals as goal
+
+-- the book is where it was
+pub finish_entry-requires-clause-counted : goal.finish_entry-requires-clause-counted
+finish_entry-requires-clause-counted g c =
+    let e = c.args.e in
+    let own = own_view c.args.counter.now in
+    let same = c.in_ok-item.ensures in
+    subst (λ (x : BookState × SeatView). HasCountNotes (hearing own x.1).given x.0.history (hearing own x.1).count_notes (Sched e) × HasCountNotes (hearing own x.1).given x.0.history (hearing own x.1).count_notes (LogFailed e.session e.seq))
+    (λ i. (sym same.state i, sym same.seat.1 i)) c.requires.counted
 
 pub returns-in_err-item-clause-state : goal.returns-in_err-item-clause-state
 returns-in_err-item-clause-state g c =
