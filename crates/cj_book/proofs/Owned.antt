@@ -14,7 +14,7 @@ use Rattle.cj_board.specs.Counting.{ends_transaction_of, event_count_of, greates
 use Rattle.cj_board.specs.Views.{count_note_of, next_session, pass_without_tokens}
 use Rattle.cj_book.specs.Books.{BookState, with_entry, with_event}
 use Rattle.cj_board.specs.Steps.{after_append}
-use Rattle.cj_book.specs.Seated.{event_or_fault, own_book_after, own_opened, own_pass_after, told_book, told_pass, view_after, GivesOwnPassesOnly, SeatedBook}
+use Rattle.cj_book.specs.Seated.{event_or_fault, own_book_after, own_opened, own_pass_after, told_book, told_pass, view_after, SeatedBook}
 use Rattle.cj_book.proofs.Announcing.{failures_same}
 use Rattle.cj_book.proofs.Counted.{opening_unfailed}
 use Rattle.cj_book.proofs.TransactionSteps.{numbered_entry}

@@ -1,5 +1,5 @@
 -- Why what could come into the history didn't, and what an append that was tried came to.
-use Rattle.std.proofs.Common.{◌≡◌, ◌⊎◌, inl, inr, ℕ, ◌+◌, ◌<◌, ◌≤◌, Bool, true, List, [], ◌∷◌, ◌++◌, length, Option, Result, Ok, Err, OnOk, IsErrOf, refl, ap, sym, ◌∙◌, arith, subst, length-append}
+use Rattle.std.proofs.Common.{◌≡◌, inl, inr, ℕ, ◌+◌, ◌<◌, ◌≤◌, Bool, true, List, [], ◌∷◌, ◌++◌, length, Option, Result, Ok, Err, OnOk, IsErrOf, refl, ap, sym, ◌∙◌, arith, subst, length-append}
 use Rattle.std.specs.Prelude.{◌↔◌, IsErrAnd}
 use Rattle.cj_book.proofs.Common.{Act, BookError, BookState, both_ways, Entry, entry_item, Event, events_left, HistoryFull, hosts_all, InProgress, is_free, IsBeforeOrAfter, items_of, LeavesItems, LeavesOnly, log, log-same, log-sched, LogError, LogFault, LogItem, Marker, marker_item, needs, NoBackend, NoMemory, Placement, placement_at, Refuses, Request, request_of}
 use Rattle.cj_cluster.specs.History.Answering.{HasNoServer, HasServer}

@@ -1,4 +1,4 @@
-use Rattle.std.proofs.Common.{◌≡◌, ℕ, ◌+◌, ap, sym, subst}
+use Rattle.std.proofs.Common.{◌≡◌, ℕ, ◌+◌, sym, subst}
 use Rattle.cj_book.proofs.Cited.{LogFailed, Sched, SeatView, came_gives, event_or_fault, low_sessions, next_session, schedules_greatest}
 use Rattle.cj_book.proofs.book.Book.schedule.Goals as goal
 

@@ -1,4 +1,4 @@
-use Rattle.std.proofs.Common.{◌≡◌, ◌+◌, length, ap, sym, ◌∙◌, subst}
+use Rattle.std.proofs.Common.{◌+◌, length, ap, sym, ◌∙◌, subst}
 use Rattle.cj_book.proofs.Cited.{BookState, HasCountNotes, LogFailed, LogFollows, Sched, SeatView, entry_followed, hearing, log, own_view, scheduled, unbegun}
 use Rattle.cj_book.specs.Events.{entry_finished, finished_as}
 use Rattle.cj_book.proofs.book.Book.schedule_counted.Goals as goal
