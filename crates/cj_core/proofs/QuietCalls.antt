@@ -8,9 +8,9 @@ use Rattle.cj_core.proofs.Common.{SessionView, slice_get_past, slice_get_within,
 use Rattle.std.proofs.lemmas.Nat.Bits.{bit_at_lowest, bit_at-suc}
 use Rattle.cj_model.specs.declared.answer.Asked.TheVariants as asked
 use Rattle.cj_model.specs.declared.answer.Outcome.TheVariants as outcome
-use Rattle.cj_core.proofs.SoloTurns.{refused_keeps}
-use Rattle.cj_core.proofs.SoloReads.{no_code}
-use Rattle.cj_core.proofs.SoloWrites.{answered_without}
+use Rattle.cj_calls.proofs.SoloTurns.{refused_keeps}
+use Rattle.cj_calls.proofs.SoloReads.{no_code}
+use Rattle.cj_calls.proofs.SoloWrites.{answered_without}
 
 -- ---- counts
 

@@ -21,15 +21,17 @@ ghost use Rattle.cj_moves.specs.Counting.{HasCauses, HasLogCauses};
 ghost use Rattle.cj_state.specs.Effects.{with_core};
 ghost use Rattle.cj_state.specs.Worlds.{accounts_of, CacheFollowsLog, IsSameWorldButLog};
 ghost use Rattle.cj_moves.specs.Logins.{HasLogins};
-ghost use Rattle.cj_core.specs.Proving.SoloParts.{call_of};
-ghost use Rattle.cj_core.specs.Solos.{desk_of, AddsEntry, EndsStarving, IsMoveOfNoSession, ReadsWithCache, SoloSteps, StandsBetweenCalls, WorldTurn};
+ghost use Rattle.cj_calls.specs.WorldTurns.{call_of, StandsBetweenCalls, WorldTurn};
+ghost use Rattle.cj_core.specs.Solos.{desk_of, IsMoveOfNoSession, SoloSteps};
+ghost use Rattle.cj_calls.specs.OwnEvents.{AddsEntry};
+ghost use Rattle.cj_calls.specs.Entries.{EndsStarving};
+ghost use Rattle.cj_calls.specs.CacheUse.{ReadsWithCache};
 ghost use Rattle.cj_moves.specs.Steps.{IsMet};
 
-use crate::solo_read::serve_read;
-use crate::solo_write::serve_write;
 use crate::world::World;
 use cj_backend::Backend;
 use cj_book::SessionsFull;
+use cj_calls::{serve_read, serve_write};
 use cj_cluster::{Move, MoveError, Moved};
 use cj_desk::{Desk, Written};
 use cj_model::{Act, Refusal, Reply, Select, Text};
@@ -57,7 +59,8 @@ pub struct Solo<B: Backend, S: Store> {
 
 impl<B: Backend, S: Store> Model for Solo<B, S> {
     ghost use Rattle.cj_moves.specs.Logins.{HasLogins};
-    ghost use Rattle.cj_core.specs.Solos.{SoloState, StandsBetweenCalls};
+    ghost use Rattle.cj_core.specs.Solos.{SoloState};
+    ghost use Rattle.cj_calls.specs.WorldTurns.{StandsBetweenCalls};
 
     ghost Value = { SoloState };
 
@@ -161,7 +164,7 @@ impl<B: Backend, S: Store> Solo<B, S> {
 
     /// Closes the session and returns the world. An open transaction of the session becomes an
     /// orphan. This takes no memory.
-    #[tactic(auto, using(crate::proofs::SoloTurns::stands_idle))]
+    #[tactic(auto, using(cj_calls::proofs::SoloTurns::stands_idle))]
     pub fn close(self) -> World<B, S>
         ensures { result ≡ with_core self.world (closed_for self.world.core self.session) }
     {
@@ -223,7 +226,7 @@ impl<R, B: Backend, S: Store> Desk<R> for Solo<B, S> {
         self.world.serve_read(self.session, user, tx, select)
     }
 
-    #[tactic(auto, using(crate::proofs::SoloTurns::stands_idle))]
+    #[tactic(auto, using(cj_calls::proofs::SoloTurns::stands_idle))]
     fn skip(&mut self) {
         self.world.count(self.session);
     }

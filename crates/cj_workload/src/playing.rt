@@ -7,7 +7,7 @@ ghost use Rattle.cj_model.specs.Sql.PlainRequests.{request_of};
 ghost use Rattle.cj_model.specs.Sql.WrittenRequests.{IsWritten};
 ghost use Rattle.cj_cluster.specs.History.Histories.{is_free};
 ghost use Rattle.cj_cluster.specs.Moves.Cores.{session_at};
-ghost use Rattle.cj_core.specs.Solos as solos;
+ghost use Rattle.cj_calls.specs.OwnEvents as own_events;
 ghost use Rattle.cj_workload.specs.Proving.Keeping.{IsOutside, KeepsSolo};
 ghost use Rattle.cj_workload.specs.Statements.{request_of_statement};
 ghost use Rattle.cj_workload.specs.Summaries.{PlaysWorkload};
@@ -96,7 +96,7 @@ fn tells_want(reply: &Reply) -> bool
 
 /// Whether the reply says that the log's store failed.
 fn tells_log_failure(reply: &Reply) -> bool
-    ensures { result ≡ solos.tells_log_failure reply.now }
+    ensures { result ≡ own_events.tells_log_failure reply.now }
 {
     match reply {
         Reply::Refused(refusal) => refusal.code == LOG_FAULT,
@@ -107,7 +107,7 @@ fn tells_log_failure(reply: &Reply) -> bool
 /// Goes on after this reply, unless it says that memory was wanting or that the log's store failed.
 fn go_on(reply: &Reply) -> Result<(), Stop>
     ensures fed { OnOk result (workload.tells_want reply.now ≡ false) }
-    ensures logged { OnOk result (solos.tells_log_failure reply.now ≡ false) }
+    ensures logged { OnOk result (own_events.tells_log_failure reply.now ≡ false) }
 {
     if tells_want(reply) {
         return Err(Stop::NoMemory);

@@ -1,6 +1,6 @@
 use Rattle.std.proofs.Common.{ℕ, List, map, sym, ap, ◌∙◌, subst, ◌≡◌, true}
 use Rattle.cj_core.proofs.Cited.{CellState, Core, Event, IsPrefix, KeepsItems, Layout, LogItem, LogView, LosesNothing, OpensTo, WorldState, started_backend, fault_of_start, items_of, loses_nothing, opened_core, placement_of, refused_again, refused_part, started_well, starts_from, state_by}
-use Rattle.cj_core.proofs.StartNumbers.{started_numbers}
+use Rattle.cj_start.proofs.StartNumbers.{started_numbers}
 use Rattle.cj_core.proofs.world.World.start.Goals as goal
 
 pub returns-in-Ok-brought-clause-started : goal.returns-in-Ok-brought-clause-started

@@ -1,0 +1,11 @@
+pub mod Cited
+pub mod Common
+pub mod SoloAsks
+pub mod SoloCache
+pub mod SoloLogins
+pub mod SoloReads
+pub mod SoloTaking
+pub mod SoloTurns
+pub mod SoloWrites
+pub mod WriteCache
+pub mod WriteStarving
