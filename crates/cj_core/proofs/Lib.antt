@@ -2,6 +2,7 @@ pub mod Cited
 pub mod Common
 pub mod Leaving
 pub mod Making
+pub mod NotScheduled
 pub mod QuietCalls
 pub mod QuietSessions
 pub mod SoloAsks

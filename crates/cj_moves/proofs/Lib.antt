@@ -1,3 +1,4 @@
 pub mod Cited
 pub mod Giving
 pub mod Reading
+pub mod Refusing
