@@ -1,5 +1,6 @@
 pub mod Cited
 pub mod Common
+pub mod NotScheduled
 pub mod SoloAsks
 pub mod SoloCache
 pub mod SoloLogins

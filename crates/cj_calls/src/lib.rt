@@ -13,4 +13,4 @@ mod read;
 mod write;
 
 pub use read::serve_read;
-pub use write::serve_write;
+pub use write::{ServedWrite, serve_write};

@@ -20,9 +20,8 @@ ghost use Rattle.cj_calls.specs.OwnEvents.{AddsEntry};
 ghost use Rattle.cj_calls.specs.Entries.{EndsStarving};
 
 use cj_backend::Backend;
-use cj_book::BookError;
 use cj_desk::Written;
-use cj_model::{Act, HISTORY_FULL, LOG_FAULT, NO_BACKEND, NO_MEMORY, Refusal, Reply, Text};
+use cj_model::{Act, NO_MEMORY, Refusal, Reply, Text};
 use cj_moves::not_now_apply;
 use cj_outside::Store;
 use cj_state::State;
@@ -107,21 +106,21 @@ fn schedule_for<B: Backend, S: Store>(
     };
     match state.schedule_entry(s, entry) {
         Ok(number) => Ok(number),
-        Err(BookError::NoBackend) => Err(Refusal::of_code(NO_BACKEND)),
-        Err(BookError::HistoryFull(events)) => Err(Refusal {
-            code: HISTORY_FULL,
-            a: events,
-            b: 0,
-        }),
-        Err(BookError::LogFault) => Err(Refusal::of_code(LOG_FAULT)),
-        Err(BookError::NoMemory) => Err(Refusal::of_code(NO_MEMORY)),
-        Err(BookError::InProgress(_)) => unreachable!(),
+        Err(error) => Err(error.refusal().unwrap_or(Refusal::of_code(NO_MEMORY))),
     }
 }
 
-/// Schedules the act as the next entry of session `s`, in transaction `tx`, 0 for none. Has each
-/// enabled backend carry it out, and gives the entry's number and reply, with the mask of the
-/// backends that ran out of memory in it.
+/// What came of a session's write.
+#[derive(Drop)]
+pub struct ServedWrite {
+    /// The entry's number and reply, as the desk gives them.
+    pub written: Written,
+    /// The mask of the backends that ran out of memory in the entry, 0 if nothing was scheduled.
+    pub starved: u32,
+}
+
+/// Schedules the act as the next entry of session `s`, in transaction `tx`, 0 for none, and has each
+/// enabled backend carry it out.
 ///
 /// A number of 0 comes with a refusal: no backend serves the request, the history has no room, the
 /// log's store failed, or memory ran out. Then nothing was scheduled.
@@ -131,29 +130,32 @@ pub fn serve_write<B: Backend, S: Store>(
     user: &Text,
     tx: u64,
     act: Act,
-) -> (Written, u32)
+) -> ServedWrite
     requires stands { StandsBetweenCalls state.old.core s }
     requires counts { (session_at state.old.core s).requests < REQUEST_LIMIT }
     requires short { length user.now ≤ USER_LIMIT }
     requires written { IsWritten (request_of act) }
     requires fits { FitsTx (moves.open_tx state.old.core s) tx act }
-    ensures turn { WorldTurn B.tells s state.old (call_of state.old.core s tx user.now (request_of act) result.0.reply) state.new }
-    ensures entry { (failed : List ℕ) × AddsEntry result.0.number s (call_of state.old.core s tx user.now (request_of act) result.0.reply) act failed state.old.core.history state.new.core.history }
+    ensures turn { WorldTurn B.tells s state.old (call_of state.old.core s tx user.now (request_of act) result.written.reply) state.new }
+    ensures entry { (failed : List ℕ) × AddsEntry result.written.number s (call_of state.old.core s tx user.now (request_of act) result.written.reply) act failed state.old.core.history state.new.core.history }
     ensures cache { CacheFollowsLog state.old state.new }
-    ensures starved { EndsStarving result.1 state.old.core.history state.new.core.history }
+    ensures starved { EndsStarving result.starved state.old.core.history state.new.core.history }
 {
     state.legal();
     match schedule_for(state, s, user, tx, act) {
         Ok(number) => {
             let (reply, starved) = finish(state, s);
-            (Written { number, reply }, starved)
+            ServedWrite {
+                written: Written { number, reply },
+                starved,
+            }
         }
-        Err(refusal) => (
-            Written {
+        Err(refusal) => ServedWrite {
+            written: Written {
                 number: 0,
                 reply: refuse(state, s, refusal),
             },
-            0,
-        ),
+            starved: 0,
+        },
     }
 }
