@@ -54,8 +54,8 @@ impl Book {
         Ok((session, p))
     }
 
-    /// Schedules an entry of a session with an own pass, as `schedule` does. The pass counts the event that comes, and has
-    /// seen the history then.
+    /// Schedules an entry of a session with an own pass, as `schedule` does. The pass counts the event that comes,
+    /// and has seen the history then.
     pub fn schedule_own<S: Store>(
         &mut self,
         recovery_log: &mut BookLog<S>,
@@ -90,8 +90,8 @@ impl Book {
         self.finish_told(board, p, e, appended)
     }
 
-    /// Begins an entry of a session with an own pass, as `begin_entry` does. Also refused, book and pass have each other's notes,
-    /// and the pass has seen the history.
+    /// Begins an entry of a session with an own pass, as `begin_entry` does. Also refused, book and pass have each
+    /// other's notes, and the pass has seen the history.
     pub fn begin_own(
         &mut self,
         board: &Board,
@@ -122,8 +122,8 @@ impl Book {
         self.begin_entry(e)
     }
 
-    /// Ends what `begin_own` began, as `finish_entry` does. The pass counts the event that comes, and has seen the history then.
-    /// Sessions and passes may have come, gone and told the book between the two.
+    /// Ends what `begin_own` began, as `finish_entry` does. The pass counts the event that comes, and has seen the
+    /// history then. Sessions and passes may have come, gone and told the book between the two.
     pub fn finish_own(
         &mut self,
         board: &Board,

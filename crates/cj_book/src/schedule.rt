@@ -56,11 +56,11 @@ fn put_entry(
 }
 
 impl Book {
-    /// Schedules an entry, which is then open, and answers its number. It stands in the log before it comes into the history.
-    /// The cache drops the answers whose queries need a table that the entry touches.
+    /// Schedules an entry, which is then open, and answers its number. It stands in the log before it comes into the
+    /// history. The cache drops the answers whose queries need a table that the entry touches.
     ///
-    /// Where it is refused for several reasons, the error is the first of them in the order of the variants. Where the log's store
-    /// failed, the history has an event of that; else it is as it was.
+    /// Where it is refused for several reasons, the error is the first of them in the order of the variants. Where
+    /// the log's store failed, the history has an event of that; else it is as it was.
     pub fn schedule<S: Store>(
         &mut self,
         recovery_log: &mut BookLog<S>,
@@ -88,8 +88,8 @@ impl Book {
         self.finish_entry(board, &mut Counter::Nobody, e, appended)
     }
 
-    /// Begins an entry, which is then pending, and answers its item for the log. All memory is taken that its end needs
-    /// (`finish_entry`). Refused, the book is as it was.
+    /// Begins an entry, which is then pending, and answers its item for the log. All memory is taken that its end
+    /// needs (`finish_entry`). Refused, the book is as it was.
     pub fn begin_entry(&mut self, e: &Entry) -> Result<LogItem, BookError>
         requires pending { self.old.pending ≡ None }
         requires fit { is_free self.old.state.history ≡ true → IsFitEntry (log self.old.state.history) e.now }
@@ -110,8 +110,8 @@ impl Book {
         Ok(item)
     }
 
-    /// Ends what `begin_entry` began, once the log was asked to append the item. The entry comes, and is open. Or the event of the
-    /// log's fault comes. Where the log wanted memory, none comes. It takes no memory.
+    /// Ends what `begin_entry` began, once the log was asked to append the item. The entry comes, and is open. Or the
+    /// event of the log's fault comes. Where the log wanted memory, none comes. It takes no memory.
     pub fn finish_entry(
         &mut self,
         board: &Board,
