@@ -12,7 +12,6 @@ pub use Rattle.cj_moves.proofs.Refusing.{abort_want, mark_want, not_aborted, not
 pub use Rattle.cj_moves.specs.Counting.{answers_log_fault, log_faults_after, tells_fault}
 pub use Rattle.cj_moves.specs.Logins.{login_to_ask}
 pub use Rattle.cj_moves.specs.Proving.ReadParts.{RefusesOrStays}
-pub use Rattle.cj_moves.specs.Proving.RefusedEvents.{refused_as}
 pub use Rattle.cj_moves.specs.Proving.ScheduleParts.{SchedulesUncounted, schedule_given}
 pub use Rattle.cj_state.proofs.Common.{Core, AskedUnderLogin, WorldState, armings_of, both_ways, faults_after, faults_of, is_entry_of, logins_of, session_at}
 pub use Rattle.cj_state.specs.Effects.{Asks, HaveFailed, asked_core, failed_asked}

@@ -1,8 +1,7 @@
 -- What a move of the administrator gives whose event was refused.
-use Rattle.std.proofs.Common.{◌≡◌, ℕ, List, inl, inr, Err, IsErrOf, refl, ap, sym, ◌∙◌}
+use Rattle.std.proofs.Common.{◌≡◌, ℕ, List, inl, inr, Err, IsErrOf, refl, ap, ◌∙◌, arith}
 use Rattle.cj_model.specs.declared.request.Entry.{Entry}
-use Rattle.cj_model.specs.declared.codes.TheConstants.{HISTORY_FULL, LOG_FAULT}
-use Rattle.cj_model.specs.Cluster.Caching.{CacheState}
+use Rattle.cj_model.specs.declared.codes.TheConstants.{HISTORY_FULL}
 use Rattle.cj_cluster.proofs.Common.{Core}
 use Rattle.cj_cluster.specs.declared.event.Event.TheVariants.{LogFailed}
 use Rattle.cj_cluster.specs.declared.moves.MoveError.TheVariants as errors
@@ -10,11 +9,9 @@ use Rattle.cj_cluster.specs.Moves.Moves.{AbortsOrphan, Marks, abort_entry, happe
 use Rattle.cj_book.specs.declared.error.BookError.{BookError}
 use Rattle.cj_book.specs.declared.error.BookError.TheVariants.{InProgress, NoBackend, HistoryFull, LogFault, NoMemory}
 use Rattle.cj_book.specs.Refusals.{refusal_of}
-use Rattle.cj_outside.specs.Causes.{CountsFault}
 use Rattle.cj_state.specs.Effects.{HadLoggedRoom, SchedulesAs, core_aborted, core_marked, with_core}
 use Rattle.cj_state.specs.Worlds.{CacheFollowsLog, IsSameWorldButLog, WorldState, with_cache, with_log}
 use Rattle.cj_moves.proofs.Giving.{same_core}
-use Rattle.cj_moves.specs.Counting.{answers_log_fault, log_faults_after}
 use Rattle.cj_moves.specs.Proving.RefusedEvents.{refused_as}
 
 -- the end of an orphan was not scheduled

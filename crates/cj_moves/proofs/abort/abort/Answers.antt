@@ -1,5 +1,5 @@
-use Rattle.std.proofs.Common.{◌≡◌, sym, subst}
-use Rattle.cj_moves.proofs.Cited.{abort_want, answers_log_fault, log_faults_after, not_aborted, refusal_causes}
+use Rattle.std.proofs.Common.{sym, ◌∙◌}
+use Rattle.cj_moves.proofs.Cited.{abort_want, not_aborted, refusal_causes}
 use Rattle.cj_moves.proofs.abort.abort.Goals as goal
 
 pub returns-in-Err-clause-moves : goal.returns-in-Err-clause-moves

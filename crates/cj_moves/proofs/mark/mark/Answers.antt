@@ -1,5 +1,5 @@
-use Rattle.std.proofs.Common.{◌≡◌, ◌∙◌, sym, subst}
-use Rattle.cj_moves.proofs.Cited.{answers_log_fault, log_faults_after, mark_want, not_marked, refusal_causes}
+use Rattle.std.proofs.Common.{sym, ◌∙◌}
+use Rattle.cj_moves.proofs.Cited.{mark_want, not_marked, refusal_causes}
 use Rattle.cj_moves.proofs.mark.mark.Goals as goal
 
 pub returns-in-Err-clause-moves : goal.returns-in-Err-clause-moves
