@@ -94,7 +94,7 @@ class Connection:
         reply = self._exchange(wire.login(user, password), "LOGIN")
         if not isinstance(reply, wire.Done):
             self._link.close()
-            raise refusals.error_of(reply) if isinstance(reply, wire.Refused) else self._mismatch(reply)
+            raise refusals.error_of(reply) if isinstance(reply, wire.Refused) else self._mismatch(reply, "LOGIN")
 
     # ---- what PEP 249 has
 
@@ -165,7 +165,7 @@ class Connection:
         reply = self._exchange(wire.frame(wire.STATS), "STATS")
         if isinstance(reply, wire.Refused):
             self._refuse(reply)
-        return reply if isinstance(reply, wire.Stats) else self._mismatch(reply)
+        return reply if isinstance(reply, wire.Stats) else self._mismatch(reply, "STATS")
 
     def execute(self, verb: str, statement: bytes) -> Union[wire.Done, wire.Rows]:
         """Executes a statement whose first word is `verb`, after a BEGIN if it needs one. Cursors use it."""
@@ -203,7 +203,7 @@ class Connection:
                 self._in_transaction = False
             self._refuse(reply, statement)
         if not isinstance(reply, wire.Rows if verb == "SELECT" else wire.Done):
-            self._mismatch(reply)
+            self._mismatch(reply, verb)
         if verb == "BEGIN" or verb in ENDS:
             self._in_transaction = verb == "BEGIN"
         return reply
@@ -247,8 +247,9 @@ class Connection:
             self._break("the server ended the session")
         raise error
 
-    def _mismatch(self, reply: wire.Reply) -> NoReturn:
+    def _mismatch(self, reply: wire.Reply, verb: str) -> NoReturn:
         """Fails for a reply to another request than was sent, which ends the connection."""
+        outcome = outcome_of(verb, True, self._in_transaction)
         self._break("the server sent a reply to another request")
-        raise InterfaceError(f"the server sent {type(reply).__name__}, which is no reply to this request",
-                             advice="Open a new connection, to a `cjc serve`.", outcome_unknown=True)
+        raise InterfaceError(f"the server sent {type(reply).__name__}, which is no reply to {verb}; {outcome.said}",
+                             advice="Open a new connection, to a `cjc serve`.", outcome_unknown=outcome.is_unknown)

@@ -129,6 +129,8 @@ def _of_bad(token: Token) -> str:
         return _COMMENT
     if first in "\"`[":
         return _QUOTED
+    if first == "\\":
+        return "A backslash command of the shell has a line of its own, outside of statements."
     if first == "?":
         return "A question mark is a parameter, and the statement was given none: write the value."
     if first == "'":
