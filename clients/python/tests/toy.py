@@ -49,7 +49,7 @@ def rows_frame(names: list[str], rows: list[tuple[Union[int, str], ...]]) -> byt
     """The frame of these rows, or a refusal 30 where it is too large."""
     parts = [struct.pack(">H", len(names))]
     for name in names:
-        parts.append(struct.pack(">H", len(name)) + name.encode())
+        parts.append(struct.pack(">H", len(name.encode())) + name.encode())
     parts.append(struct.pack(">I", len(rows)))
     for row in rows:
         for value in row:
