@@ -26,6 +26,7 @@ class _Parser(argparse.ArgumentParser):
     """A parser that exits with the shell's own status for a wrong command line."""
 
     def error(self, message: str) -> NoReturn:
+        """Ends the program for a command line that is wrong."""
         self.print_usage(sys.stderr)
         self.exit(USAGE, f"{self.prog}: {message}\n")
 
@@ -84,7 +85,7 @@ def _run(shell: Shell, runs: Sequence[tuple[str, str]]) -> int:
 def _session(given: argparse.Namespace) -> int:
     """Connects, runs what is given or typed, and closes. Returns the exit status."""
     address, timeout = _address(given), given.timeout if given.timeout > 0 else None
-    interactive = not given.runs and sys.stdin.isatty()
+    interactive = not given.runs and sys.stdin.isatty() and sys.stdout.isatty()
     options = Options(interactive, given.keep_going, given.csv, False, given.quiet)
     shell = Shell(lambda: Connection(address, timeout, autocommit=True), options, sys.stdout, sys.stderr)
     try:

@@ -144,6 +144,7 @@ class Connection:
 
     @autocommit.setter
     def autocommit(self, value: bool) -> None:
+        """Fails with ProgrammingError while a transaction is open."""
         self._check()
         if self._in_transaction and bool(value) != self._autocommit:
             raise ProgrammingError("a transaction is open: commit or roll it back before autocommit is changed")

@@ -90,8 +90,8 @@ _FORMS = {
     "transaction": "Write BEGIN, COMMIT or ROLLBACK alone.",
 }
 # Where a column or a table is due, so that a reserved word is a name that was chosen badly.
-_NAMES = ("create", "column definition", "drop", "insert", "update", "set", "delete", "item", "tables", "group", "order",
-          "sum", "condition")
+_NAMES = ("create", "column definition", "drop", "insert", "update", "set", "delete", "item", "tables", "group",
+          "order", "sum", "condition")
 
 
 def shown(token: Token) -> str:

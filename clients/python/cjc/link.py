@@ -78,10 +78,9 @@ class Link:
             self._check_quiet()
             self._limit(end)
             self._socket.sendall(request)
-        except socket.timeout:
-            raise LinkError(f"sending took longer than {self.timeout} seconds", sent=False) from None
         except OSError as error:
-            raise LinkError(f"sending failed ({error.strerror or error})", sent=False) from error
+            late = f"sending took longer than {self.timeout} seconds"
+            raise LinkError(_said(error, late, "sending failed"), sent=False) from error
 
     def _receive(self, end: Optional[float]) -> wire.Reply:
         try:
@@ -96,10 +95,9 @@ class Link:
             return wire.reply(room[wire.LENGTH.size:total])
         except wire.Malformed as error:
             raise GarbageError(f"the server sent {error}", sent=True) from None
-        except socket.timeout:
-            raise LinkError(f"no whole reply came within {self.timeout} seconds", sent=True) from None
         except OSError as error:
-            raise LinkError(f"receiving failed ({error.strerror or error})", sent=True) from error
+            late = f"no whole reply came within {self.timeout} seconds"
+            raise LinkError(_said(error, late, "receiving failed"), sent=True) from error
 
     def _fill(self, room: memoryview, have: int, wanted: int, end: Optional[float]) -> int:
         """Receives into the room until it has the wanted bytes or more, and returns how many it has."""
@@ -111,3 +109,10 @@ class Link:
                 raise LinkError(f"the server closed the connection {where}", sent=True)
             have += count
         return have
+
+
+def _said(error: OSError, late: str, failed: str) -> str:
+    """`late` where the time was over, else `failed` with the system's reason, which may be a time limit of its own."""
+    if isinstance(error, socket.timeout) and error.errno is None:
+        return late
+    return f"{failed} ({error.strerror or error})"

@@ -1,6 +1,7 @@
 """The shell: statements and backslash commands, line by line, to text. It reads from no terminal itself."""
 from __future__ import annotations
 
+import contextlib
 import os
 import time
 from collections.abc import Callable, Iterable
@@ -264,8 +265,18 @@ class Shell:
             self._write(said + "\n")
 
     def _write(self, text: str) -> None:
-        self._out.write(text)
-        self._out.flush()
+        """Writes to the file of \\o or to the screen. A file that can't be written is given up."""
+        try:
+            self._out.write(text)
+            self._out.flush()
+        except OSError as error:
+            if self._out is self._screen:
+                raise
+            self._out, lost = self._screen, self._out
+            with contextlib.suppress(OSError):
+                lost.close()
+            self._failed(f"can't write {lost.name}: {error.strerror}", "What follows goes to the screen.", self._line,
+                         USAGE)
 
 
 def excerpt(text: str, fault: Fault) -> str:

@@ -137,6 +137,7 @@ class _Reader:
     # ---- statements
 
     def request(self) -> None:
+        """Reads the whole text."""
         if not self._sees(*_STATEMENTS):
             self._wrong("a statement", "start")
         verb = self._take().text

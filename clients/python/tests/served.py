@@ -51,6 +51,11 @@ class OverToy(unittest.TestCase):
             connection.cursor().execute(f"CREATE TABLE {name} ({columns})")
         return name
 
+    def needs_toy(self) -> None:
+        """Skips the test over a server that can't be told to misbehave."""
+        if not hasattr(self, "toy"):
+            self.skipTest("the server of CJC_SERVER can't be told to misbehave")
+
     def _drop(self) -> None:
         with cjc.connect(self.host, self.port, self.user, self.password, timeout=PATIENCE, autocommit=True) as one:
             for name in self.tables:

@@ -4,6 +4,7 @@ from __future__ import annotations
 import datetime
 import threading
 import unittest
+from urllib.parse import quote
 
 import cjc
 
@@ -11,8 +12,8 @@ from .served import OverToy, over_server
 
 LOWEST, HIGHEST = -(2 ** 63), 2 ** 63 - 1
 # Quotes, line feeds, characters of one to four bytes, question marks, and what other dialects read as escapes.
-TEXTS = ["", "it's", "''", "a\nb\r\n\tc", "é日本🙂", "what? 'no?' ?", "back\\slash", "--", ";", "NULL", "%_", "x" * 4096,
-         "🙂" * 1024, "\u200b\x01\x7f"]
+TEXTS = ["", "it's", "''", "a\nb\r\n\tc", "é日本🙂", "what? 'no?' ?", "back\\slash", "--", ";", "NULL", "%_",
+         "x" * 4096, "🙂" * 1024, "\u200b\x01\x7f"]
 
 
 class Module(unittest.TestCase):
@@ -47,7 +48,8 @@ class Driver(OverToy):
     """Calls of connections and cursors."""
 
     def test_connects_by_url(self) -> None:
-        with cjc.connect(f"cjc://{self.user}:{self.password}@{self.host}:{self.port}") as connection:
+        user, password = quote(self.user, safe=""), quote(self.password, safe="")
+        with cjc.connect(f"cjc://{user}:{password}@{self.host}:{self.port}") as connection:
             self.assertFalse(connection.closed)
         with cjc.connect(f"cjc://{self.host}:{self.port}", user=self.user, password=self.password):
             pass
@@ -70,7 +72,8 @@ class Driver(OverToy):
     def test_fetches(self) -> None:
         table = self.create("fetches")
         cursor = self.connect().cursor()
-        self.assertIs(cursor.executemany(f"INSERT INTO {table} VALUES (?, ?)", [(n, str(n)) for n in range(10)]), cursor)
+        rows = [(n, str(n)) for n in range(10)]
+        self.assertIs(cursor.executemany(f"INSERT INTO {table} VALUES (?, ?)", rows), cursor)
         self.assertEqual(cursor.rowcount, 10)
         self.assertIsNone(cursor.description)
         cursor.execute(f"SELECT k, v FROM {table} WHERE k < ?", (7,))
@@ -283,7 +286,8 @@ class Driver(OverToy):
                 ((1, 1.5), cjc.NotSupportedError), ((1, b"x"), cjc.NotSupportedError),
                 ((1, cjc.Date(2026, 1, 1)), cjc.NotSupportedError), ((1, [1]), cjc.NotSupportedError),
                 ((1, "a\0b"), cjc.DataError), ((1, "x" * 4097), cjc.DataError), ((1, "é" * 2049), cjc.DataError),
-                ((1, "\ud800"), cjc.DataError), ((HIGHEST + 1, "a"), cjc.DataError), ((LOWEST - 1, "a"), cjc.DataError)):
+                ((1, "\ud800"), cjc.DataError), ((HIGHEST + 1, "a"), cjc.DataError),
+                ((LOWEST - 1, "a"), cjc.DataError)):
             with self.assertRaises(kind):
                 cursor.execute(insert, parameters)
             with self.assertRaises(kind):

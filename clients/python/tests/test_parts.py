@@ -69,7 +69,8 @@ class Statements(unittest.TestCase):
     def test_parameters_stay_tokens(self) -> None:
         for text, parameters, wanted in (
                 ("k = ?", (1,), "k = 1"), ("k=?AND v=?", (1, "a"), "k=1 AND v='a'"), ("v-?", (-1,), "v- -1"),
-                ("'a'?", ("b",), "'a' 'b'"), ("??", ("a", "b"), "'a' 'b'"), ("k?", (1,), "k 1"), ("?'x'", ("a",), "'a' 'x'"),
+                ("'a'?", ("b",), "'a' 'b'"), ("??", ("a", "b"), "'a' 'b'"), ("k?", (1,), "k 1"),
+                ("?'x'", ("a",), "'a' 'x'"),
                 ("'?' ? '''?'", (1,), "'?' 1 '''?'"), ("'?", (), "'?"), ("(?,?)", (1, "?"), "(1,'?')")):
             self.assertEqual(template_of(text).bind(parameters), wanted)
 
@@ -102,11 +103,14 @@ class Grammar(unittest.TestCase):
     def test_each_hint(self) -> None:
         for text, wrong, hint in (
                 ("SELECT DISTINCT v FROM t", "DISTINCT", "GROUP BY c"), ("SELECT MAX(k) FROM t", "MAX", "DESC LIMIT 1"),
-                ("SELECT k FROM t WHERE k IN (1)", "IN", "k = 1 OR k = 2"), ("DROP TABLE IF EXISTS t", "IF", "Leave IF"),
+                ("SELECT k FROM t WHERE k IN (1)", "IN", "k = 1 OR k = 2"),
+                ("DROP TABLE IF EXISTS t", "IF", "Leave IF"),
                 ("CREATE TABLE t (k INT)", "INT", "INTEGER"), ("CREATE TABLE t (v VARCHAR(9))", "VARCHAR", "TEXT"),
-                ("CREATE TABLE t (k TEXT NOT NULL)", "NOT", "NOT NULL"), ("CREATE TABLE order (k TEXT)", "order", "reserved"),
+                ("CREATE TABLE t (k TEXT NOT NULL)", "NOT", "NOT NULL"),
+                ("CREATE TABLE order (k TEXT)", "order", "reserved"),
                 ("UPDATE t SET v = 1.5", ".", "fractions"), ("UPDATE t SET v = v * 2", "*", "only + and -"),
-                ("SELECT k FROM t WHERE k = (SELECT k FROM u)", "(", "no subqueries"), ("START TRANSACTION", "START", "BEGIN"),
+                ("SELECT k FROM t WHERE k = (SELECT k FROM u)", "(", "no subqueries"),
+                ("START TRANSACTION", "START", "BEGIN"),
                 ("BEGIN WORK", "WORK", "alone"), ("SELECT k FROM t; SELECT k FROM t", "SELECT", "one statement"),
                 ("SELECT k FROM t WHERE k == 1", "=", "one ="), ("INSERT INTO t VALUES (abc)", "abc", "single quotes"),
                 ("SELECT k FROM t WHERE v = 'a", "'", "it''s"), ("SELECT k FROM t, t", "t", "joined to itself"),
@@ -115,7 +119,8 @@ class Grammar(unittest.TestCase):
                 ("SELECT k FROM t LIMIT 5 OFFSET 2", "OFFSET", "no OFFSET"), ("SELECT é FROM t", "é", "ASCII"),
                 ("ALTER TABLE t ADD c TEXT", "ALTER", "no ALTER"), ("SELECT v\0 FROM t", "\0", "Leave it out"),
                 ("SELECT * FROM t LEFT JOIN u", "LEFT", "no outer joins"), ("SELECT", "", "Finish"),
-                ("INSERT INTO t VALUES (1) ON CONFLICT", "ON", "27"), ("SELECT upper(v) FROM t", "(", "no such function")):
+                ("INSERT INTO t VALUES (1) ON CONFLICT", "ON", "27"),
+                ("SELECT upper(v) FROM t", "(", "no such function")):
             fault = fault_of(text)
             assert fault is not None, text
             self.assertEqual(text[fault.at:fault.end], wrong, text)

@@ -20,7 +20,7 @@ from unittest import mock
 from cjc.__main__ import main
 
 from . import toy
-from .served import PATIENCE, OverToy
+from .served import PATIENCE, OverToy, over_server
 
 PACKAGE = os.path.dirname(os.path.dirname(os.path.abspath(__file__)))
 
@@ -84,7 +84,8 @@ lines'), (4, 'esc \x1b[31m'); SELECT k, v FROM {self.table} ORDER BY v; SELECT C
         given = f"INSERT INTO {self.table} VALUES (1, 'a,\"b'), (2, 'c\nd');\nSELECT * FROM {self.table};"
         status, out, err = self.shell("--csv", "-q", given=given)
         self.assertEqual((status, out, err), (0, 'k,v\n1,"a,""b"\n2,"c\nd"\n', ""))
-        status, out, err = self.shell("-q", given=f"\\csv\nSELECT k FROM {self.table}\n;\\csv\nSELECT * FROM {self.table}")
+        given = f"\\csv\nSELECT k FROM {self.table}\n;\\csv\nSELECT * FROM {self.table}"
+        status, out, err = self.shell("-q", given=given)
         self.assertEqual((status, out), (3, "k\n1\n2\n"))
         self.assertIn("stdin:3: ERROR 10 Syntax: the character '\\\\' can't stand here", err)
 
@@ -94,8 +95,7 @@ lines'), (4, 'esc \x1b[31m'); SELECT k, v FROM {self.table} ORDER BY v; SELECT C
                  f"DROP TABLE {self.table}_b"]
         status, out, err = self.shell("-f", self.file("a.sql", "\r\n".join(lines)))
         self.assertEqual((status, err), (0, ""))
-        self.assertEqual(out.split("\n"), ["CREATE TABLE", "BEGIN", "UPDATE 0", "DELETE 0", "ROLLBACK", "BEGIN", "COMMIT",
-                                           "DROP TABLE", ""])
+        self.assertEqual(out, "CREATE TABLE\nBEGIN\nUPDATE 0\nDELETE 0\nROLLBACK\nBEGIN\nCOMMIT\nDROP TABLE\n")
 
     def test_stops_at_the_first_error(self) -> None:
         path = self.file("b.sql", f"INSERT INTO {self.table} VALUES (1, 'a');\n\n"
@@ -129,7 +129,8 @@ lines'), (4, 'esc \x1b[31m'); SELECT k, v FROM {self.table} ORDER BY v; SELECT C
             self.assertRegex(lines[3], f"HINT .*{hint}")
 
     def test_excerpt_of_a_long_line(self) -> None:
-        status, _, err = self.shell("-c", "SELECT v FROM t WHERE " + "k = 1 OR " * 100 + "k LIKE 2 " + "OR k = 3 " * 100)
+        condition = "k = 1 OR " * 100 + "k LIKE 2 " + "OR k = 3 " * 100
+        status, _, err = self.shell("-c", f"SELECT v FROM t WHERE {condition}")
         lines = err.split("\n")
         self.assertEqual(status, 3)
         self.assertLess(max(map(len, lines)), 120)
@@ -139,7 +140,8 @@ lines'), (4, 'esc \x1b[31m'); SELECT k, v FROM {self.table} ORDER BY v; SELECT C
     def test_files(self) -> None:
         inner = self.file("inner.sql", f"SELECT v FROM {self.table};\n\\o\nSELECT 1;\n")
         out_path = os.path.join(self.folder, "out file.txt")
-        outer = self.file("outer.sql", f"INSERT INTO {self.table} VALUES (1, 'é');\n\\o '{out_path}'\n\\i {inner}\n\\?\n")
+        lines = [f"INSERT INTO {self.table} VALUES (1, 'é');", f"\\o '{out_path}'", f"\\i {inner}", "\\?"]
+        outer = self.file("outer.sql", "\n".join(lines))
         status, out, err = self.shell("-f", outer)
         self.assertEqual((status, out), (3, "INSERT 1\n"))
         self.assertTrue(err.startswith(f"{inner}:3: ERROR 10 Syntax"), err)
@@ -157,9 +159,11 @@ lines'), (4, 'esc \x1b[31m'); SELECT k, v FROM {self.table} ORDER BY v; SELECT C
         self.assertIn("UTF-8", err)
 
     def test_commands(self) -> None:
-        status, out, err = self.shell(given=f"\\timing\nSELECT k FROM {self.table};\n\\timing\n\\stats\n\\?\n\\q\nSELECT")
+        given = f"\\timing\nSELECT k FROM {self.table};\n\\timing\n\\stats\n\\?\n\\q\nSELECT"
+        status, out, err = self.shell(given=given)
         self.assertEqual((status, err), (0, ""))
-        self.assertRegex(out, r"Timing is on\.\n k\n -\n\(0 rows\)\nTime: [0-9.]+ ms\nTiming is off\.\nhits \d+, misses \d+\n")
+        self.assertRegex(out, r"Timing is on\.\n k\n -\n\(0 rows\)\nTime: [0-9.]+ ms\nTiming is off\.\n"
+                              r"hits \d+, misses \d+\n")
         self.assertIn("\\i FILE", out)
         status, _, err = self.shell("-c", "\\d")
         self.assertEqual(status, 3)
@@ -173,15 +177,24 @@ lines'), (4, 'esc \x1b[31m'); SELECT k, v FROM {self.table} ORDER BY v; SELECT C
         self.assertIn("HINT", err)
         self.assertEqual(self.shell("--nothing")[0], 1)
         self.assertEqual(self.shell(given="")[0], 0)
-        self.toy.tricks["UPDATE t SET v = ''"] = toy.closes()
-        status, _, err = self.shell("--keep-going", "-c", "UPDATE t SET v = ''", "-c", "SELECT k FROM t")
-        self.assertEqual((status, err.count("ERROR")), (2, 1))
-        self.assertIn("the outcome isn't known", err)
         with mock.patch.dict(os.environ), contextlib.redirect_stderr(io.StringIO()) as said, \
                 mock.patch.object(sys, "stdin", io.StringIO("")):
             os.environ.pop("CJC_PASSWORD", None)
             self.assertEqual(main([f"{self.host}:{self.port}", "-U", "ann", "-c", "SELECT 1"]), 2)
         self.assertIn("Set CJC_PASSWORD", said.getvalue())
+
+    def test_a_lost_connection(self) -> None:
+        self.needs_toy()
+        self.toy.tricks["UPDATE t SET v = ''"] = toy.closes()
+        status, _, err = self.shell("--keep-going", "-c", "UPDATE t SET v = ''", "-c", "SELECT k FROM t")
+        self.assertEqual((status, err.count("ERROR")), (2, 1))
+        self.assertIn("the outcome isn't known", err)
+
+    @unittest.skipUnless(os.path.exists("/dev/full"), "this system has no /dev/full")
+    def test_a_full_disk(self) -> None:
+        status, out, err = self.shell("-c", f"\\o /dev/full\nSELECT k FROM {self.table};")
+        self.assertEqual((status, out), (1, ""))
+        self.assertIn("can't write /dev/full: No space left on device", err)
 
     def test_an_open_transaction_at_the_end(self) -> None:
         status, _, err = self.shell("-c", f"BEGIN; INSERT INTO {self.table} VALUES (1, 'a')")
@@ -290,12 +303,7 @@ class AtTerminal(OverToy):
         shell.send("stats\x01\\")
         shell.wait_for(r"\\stats")
         self.assertIn("hits", shell.type(""))
-        shown = shell.type("SELECT v FROM t WHERE v LIKE 'a';")
-        self.assertIn("^^^^", shown)
-        self.assertIn("HINT  There is no LIKE", shown)
-        self.assertIn("is no command", shell.type("\\nothing"))
-        shell.send("\x04")
-        self.assertEqual(shell.status(), 0)
+        self._look_at_errors(shell)
         with open(self.history, encoding="utf-8") as file:
             kept = file.read()
         self.assertIn("ROLLBACK;", kept)
@@ -309,7 +317,17 @@ class AtTerminal(OverToy):
         again.send("\\q\r")
         self.assertEqual(again.status(), 0)
 
+    def _look_at_errors(self, shell: Terminal) -> None:
+        """Errors at a terminal end nothing, and Ctrl-D ends the shell well."""
+        shown = shell.type("SELECT v FROM t WHERE v LIKE 'a';")
+        self.assertIn("^^^^", shown)
+        self.assertIn("HINT  There is no LIKE", shown)
+        self.assertIn("is no command", shell.type("\\nothing"))
+        shell.send("\x04")
+        self.assertEqual(shell.status(), 0)
+
     def test_ctrl_c_and_ctrl_d(self) -> None:
+        self.needs_toy()
         shell = self.terminal(CJC_PASSWORD=self.password, CJC_HISTORY="")
         shell.wait_for("cjc=> $")
         shell.type("SELECT 'half", "cjc'> $")
@@ -371,3 +389,5 @@ class AtTerminal(OverToy):
                       'logins = ["l0", "l1"] }', shell.shown)
 
 
+WithoutTerminalOverServer = over_server(WithoutTerminal)
+AtTerminalOverServer = over_server(AtTerminal)

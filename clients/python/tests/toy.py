@@ -147,8 +147,9 @@ class Engine:
     def _change(self, text: str) -> int:
         if verb_of(text) == "CREATE":
             # Columns without a kind, for SQLite converts values to it. Rows come in the order of the key.
-            text = re.sub(r"(\w+)\s+(INTEGER|TEXT)\b(\s+PRIMARY\s+KEY)?", r"\1 \3 NOT NULL CHECK (typeof(\1) = lower('\2'))",
-                          text, flags=re.IGNORECASE).rstrip("; ") + " WITHOUT ROWID"
+            checked = r"\1 \3 NOT NULL CHECK (typeof(\1) = lower('\2'))"
+            text = re.sub(r"(\w+)\s+(INTEGER|TEXT)\b(\s+PRIMARY\s+KEY)?", checked, text, flags=re.IGNORECASE)
+            text = text.rstrip("; ") + " WITHOUT ROWID"
             self._execute(text)
             return 0
         return max(0, self._execute(text).rowcount) if verb_of(text) in CHANGES else self._execute(text).rowcount and 0
