@@ -8,7 +8,7 @@ from typing import Any, Optional
 import cjc
 from cjc.address import address_of
 
-from . import toy
+from .toy import PASSWORD, USER, Toy
 
 # HOST:PORT of a server to test over, besides the toy.
 SERVER = os.environ.get("CJC_SERVER")
@@ -19,13 +19,14 @@ PATIENCE = 10.0
 class OverToy(unittest.TestCase):
     """Tests over a toy of their own, which can be told to misbehave."""
 
-    toy: toy.Toy
-    host, user, password = "127.0.0.1", toy.USER, toy.PASSWORD
+    # None over the server of the environment.
+    toy: Any = None
+    host, user, password = "127.0.0.1", USER, PASSWORD
     port: int
 
     @classmethod
     def setUpClass(cls) -> None:
-        cls.toy = toy.Toy()
+        cls.toy = Toy()
         cls.port = cls.toy.port
 
     @classmethod
@@ -53,7 +54,7 @@ class OverToy(unittest.TestCase):
 
     def needs_toy(self) -> None:
         """Skips the test over a server that can't be told to misbehave."""
-        if not hasattr(self, "toy"):
+        if self.toy is None:
             self.skipTest("the server of CJC_SERVER can't be told to misbehave")
 
     def _drop(self) -> None:
@@ -72,6 +73,6 @@ def over_server(case: type[OverToy]) -> Optional[type[OverToy]]:
         """The server is there."""
 
     return type(f"{case.__name__}OverServer", (case,), {
-        "__module__": case.__module__, "setUpClass": classmethod(nothing), "tearDownClass": classmethod(nothing),
+        "__module__": case.__module__, "toy": None, "setUpClass": classmethod(nothing), "tearDownClass": classmethod(nothing),
         "host": address.host, "port": address.port,
-        "user": os.environ.get("CJC_USER", toy.USER), "password": os.environ.get("CJC_PASSWORD", toy.PASSWORD)})
+        "user": os.environ.get("CJC_USER", USER), "password": os.environ.get("CJC_PASSWORD", PASSWORD)})

@@ -337,7 +337,8 @@ class AtTerminal(OverToy):
         self.addCleanup(event.set)
         self.toy.tricks["UPDATE t SET v = 1;"] = toy.waits(event)
         shell.send("UPDATE t SET v = 1;\r")
-        while "UPDATE t SET v = 1;" in self.toy.tricks:
+        end = time.monotonic() + PATIENCE
+        while "UPDATE t SET v = 1;" in self.toy.tricks and time.monotonic() < end:
             time.sleep(0.01)
         shell.send("\x03")
         shown = shell.wait_for("cjc=> $")
