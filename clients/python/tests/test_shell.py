@@ -247,6 +247,12 @@ class Terminal:
         self.send(line + "\r")
         return self.wait_for(prompt)
 
+    def enter(self, shown: str) -> None:
+        """Enters the line that was edited, whose display may hold the prompt several times, and waits for its answer."""
+        self.send("\r")
+        self.wait_for(shown)
+        self.wait_for(r"cjc=> $")
+
     def status(self) -> int:
         """The exit status. What is shown until then is in `shown`."""
         with contextlib.suppress(AssertionError):
@@ -298,11 +304,11 @@ class AtTerminal(OverToy):
         # The line before the last, by Ctrl-P.
         shell.send("\x10\x10")
         shell.wait_for("ROLLBACK;")
-        self.assertIn("12 NoTransaction", shell.type(""))
+        shell.enter("12 NoTransaction")
         # The line is edited: Ctrl-A, and a character more at its beginning.
         shell.send("stats\x01\\")
         shell.wait_for(r"\\stats")
-        self.assertIn("hits", shell.type(""))
+        shell.enter("hits")
         self._look_at_errors(shell)
         with open(self.history, encoding="utf-8") as file:
             kept = file.read()
@@ -313,7 +319,7 @@ class AtTerminal(OverToy):
         again.wait_for("cjc=> $")
         again.send("\x10")
         again.wait_for(r"\\nothing")
-        self.assertIn("is no command", again.type(""))
+        again.enter("is no command")
         again.send("\\q\r")
         self.assertEqual(again.status(), 0)
 
