@@ -55,6 +55,8 @@ class Wire(unittest.TestCase):
             for cut in range(5, len(whole)):
                 with self.assertRaises(wire.Malformed):
                     wire.reply(memoryview(whole[:cut])[4:])
+            with self.assertRaises(wire.Malformed):
+                wire.reply(memoryview(whole + b"\0")[4:])
 
 
 class Statements(unittest.TestCase):
@@ -229,6 +231,8 @@ class Tables(unittest.TestCase):
         rows = wire.Rows(("k", "wide"), [(1, "日本"), (-10, "e\u0301"), (3, "a\tb\nc")])
         self.assertEqual(table.aligned(rows), "   k | wide\n ----+--------\n   1 | 日本\n -10 | e\u0301\n"
                                               "   3 | a\\x09b+\n     | c\n(3 rows)\n")
+        rows = wire.Rows(("v", "k"), [("日本", 1), ("abc", 23)])
+        self.assertEqual(table.aligned(rows), " v    |  k\n -----+---\n 日本 |  1\n abc  | 23\n(2 rows)\n")
         self.assertEqual(table.aligned(wire.Rows(("k",), [])), " k\n -\n(0 rows)\n")
 
     def test_csv(self) -> None:
