@@ -111,13 +111,13 @@ class Connection:
         """
         self._check()
         if self._in_transaction:
-            self.execute("COMMIT", b"COMMIT")
+            self.request("COMMIT", b"COMMIT")
 
     def rollback(self) -> None:
         """Rolls back the open transaction. Without one it does nothing."""
         self._check()
         if self._in_transaction:
-            self.execute("ROLLBACK", b"ROLLBACK")
+            self.request("ROLLBACK", b"ROLLBACK")
 
     def close(self) -> None:
         """Rolls back the open transaction and closes the connection. It may be closed already, or broken."""
@@ -168,7 +168,7 @@ class Connection:
             self._refuse(reply)
         return reply if isinstance(reply, wire.Stats) else self._mismatch(reply, "STATS")
 
-    def execute(self, verb: str, statement: bytes) -> Union[wire.Done, wire.Rows]:
+    def request(self, verb: str, statement: bytes) -> Union[wire.Done, wire.Rows]:
         """Executes a statement whose first word is `verb`, after a BEGIN if it needs one. Cursors use it."""
         self._check()
         if verb in CHANGES and not self._autocommit and not self._in_transaction:

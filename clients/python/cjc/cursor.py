@@ -47,7 +47,7 @@ class Cursor:
         self._reset()
         text = template_of(operation).bind(parameters_of(parameters))
         verb = verb_of(operation)
-        self._take(verb, self.connection.execute(verb, statement_bytes(text)))
+        self._take(verb, self.connection.request(verb, statement_bytes(text)))
         return self
 
     def executemany(self, operation: str, seq_of_parameters: Iterable[Sequence[object]]) -> Cursor:
@@ -63,7 +63,7 @@ class Cursor:
             raise ProgrammingError("executemany takes no SELECT: execute it with each of the parameters")
         statements, total = many(operation, seq_of_parameters), 0
         for statement in statements:
-            total += self.connection.execute(verb, statement).count  # type: ignore[union-attr]
+            total += self.connection.request(verb, statement).count  # type: ignore[union-attr]
             self.rowcount = total if verb in _COUNTED else -1
         if not statements and verb in _COUNTED:
             self.rowcount = 0

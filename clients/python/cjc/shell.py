@@ -147,7 +147,7 @@ class Shell:
         self._reopen()
         verb, inside, start = verb_of(text), self.connection.in_transaction, time.monotonic()
         try:
-            self._show(verb, self.connection.execute(verb, statement_bytes(text)))
+            self._show(verb, self.connection.request(verb, statement_bytes(text)))
         except Error as error:
             self._refused(error, text, line)
         except KeyboardInterrupt:

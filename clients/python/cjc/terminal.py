@@ -5,7 +5,7 @@ import os
 import sys
 from typing import Optional
 
-from .shell import HELP, OK, Quit, Shell
+from .shell import OK, Quit, Shell
 
 try:
     import readline
@@ -73,6 +73,3 @@ def _one_line(shell: Shell) -> None:
         shell.clear()
     except UnicodeDecodeError:
         print("ERROR the line isn't UTF-8, so it was dropped", file=sys.stderr)
-
-
-__all__ = ["HELP", "history_file", "interact"]
