@@ -3,6 +3,7 @@ from __future__ import annotations
 
 import argparse
 import getpass
+import io
 import os
 import sys
 from collections.abc import Sequence
@@ -99,6 +100,9 @@ def _session(given: argparse.Namespace) -> int:
 def main(arguments: Optional[Sequence[str]] = None) -> int:
     """Runs the shell with these arguments, by default those of the command line. Returns the exit status."""
     given = _parser().parse_args(arguments)
+    if isinstance(sys.stdout, io.TextIOWrapper):
+        # A character that the terminal's encoding lacks is written out.
+        sys.stdout.reconfigure(errors="backslashreplace")
     try:
         return _session(given)
     except Error as error:

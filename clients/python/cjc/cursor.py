@@ -37,7 +37,7 @@ class Cursor:
 
     # ---- statements
 
-    def execute(self, operation: str, parameters: Sequence[object] = ()) -> Cursor:
+    def execute(self, operation: str, parameters: Optional[Sequence[object]] = None) -> Cursor:
         """Executes a statement, with a parameter for each question mark outside of strings.
 
         Fails with the class of the server's refusal (docs/CLIENTS.md). Before anything is sent it fails with
@@ -69,7 +69,7 @@ class Cursor:
             self.rowcount = 0
         return self
 
-    def callproc(self, procname: str, parameters: Sequence[object] = ()) -> None:
+    def callproc(self, procname: str, parameters: Optional[Sequence[object]] = None) -> None:
         """Fails with NotSupportedError: cjc has no stored procedures."""
         raise NotSupportedError(f"cjc has no stored procedures, so none is {procname}")
 

@@ -144,7 +144,8 @@ class Shell:
 
     def _statement(self, text: str, line: int) -> None:
         """Runs one statement and shows its answer or its error."""
-        self._reopen()
+        if not self._reopen():
+            return
         verb, inside, start = verb_of(text), self.connection.in_transaction, time.monotonic()
         try:
             self._show(verb, self.connection.request(verb, statement_bytes(text)))
@@ -165,15 +166,20 @@ class Shell:
             said = f"{verb} TABLE" if verb in SCHEMA else f"{verb} {reply.count}" if verb in CHANGES else verb
             self._write(said + "\n")
 
-    def _reopen(self) -> None:
-        """Connects again after the connection broke. A statement is never sent again."""
+    def _reopen(self) -> bool:
+        """Connects again after the connection broke, at a terminal. Returns whether statements may go on.
+
+        A statement is never sent again.
+        """
         if not self.connection.closed or not self.options.interactive:
-            return
+            return True
         try:
             self.connection = self._connect()
-            print("connected again", file=self._err)
         except Error as error:
             self._failed(str(error), error.advice, self._line, NO_CONNECTION)
+            return False
+        print("connected again", file=self._err)
+        return True
 
     def _refused(self, error: Error, text: str, line: int) -> None:
         """Shows the error of a statement, with the word that can't stand there where it is known."""
@@ -222,7 +228,8 @@ class Shell:
         self._note(f"Rows are written as {'CSV' if self.options.csv else 'tables'}.")
 
     def _stats(self, _: str) -> None:
-        self._reopen()
+        if not self._reopen():
+            return
         try:
             stats = self.connection.stats()
         except Error as error:

@@ -82,7 +82,9 @@ def _apart(piece: str, after: bool, before: bool) -> str:
 
 
 def parameters_of(given: object) -> Sequence[object]:
-    """The parameters as a list or tuple. Fails with ProgrammingError for what is none, such as one text."""
+    """The parameters as a sequence; None is none. Fails with ProgrammingError for another object, such as a text."""
+    if given is None:
+        return ()
     if isinstance(given, (list, tuple)):
         return given
     if isinstance(given, (str, bytes, bytearray)) or not isinstance(given, Sequence):

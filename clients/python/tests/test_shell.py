@@ -364,6 +364,23 @@ class AtTerminal(OverToy):
         self.assertIn("the open transaction is rolled back", shell.shown)
         self.assertEqual(os.listdir(self.folder), [])
 
+    def test_a_server_that_is_gone(self) -> None:
+        """Each statement tries to connect, and says once that it can't."""
+        self.needs_toy()
+        gone = toy.Toy()
+        shell = Terminal(["cjc", f"127.0.0.1:{gone.port}", "-U", toy.USER], CJC_PASSWORD=toy.PASSWORD)
+        self.addCleanup(shell.kill)
+        shell.wait_for("cjc=> $")
+        gone.close()
+        shown = shell.type("SELECT k FROM t;")
+        self.assertRegex(shown, "(?s)nothing was changed.*can't connect")
+        shown = shell.type("SELECT k FROM t;")
+        self.assertEqual(shown.count("ERROR can't connect"), 1)
+        self.assertEqual(shown.count("ERROR"), 1)
+        shell.type("\\stats")
+        shell.send("\x04")
+        self.assertEqual(shell.status(), 0)
+
     def test_a_file_at_a_terminal(self) -> None:
         path = os.path.join(self.folder, "a.sql")
         with open(path, "w", encoding="utf-8") as file:
