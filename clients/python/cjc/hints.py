@@ -1,6 +1,7 @@
 """What to write in place of a word that can't stand where it stands: other dialects' words and common slips."""
 from __future__ import annotations
 
+from .table import safe
 from .tokens import BAD, END, NAME, NUMBER, STRING, SYMBOL, WORD, Token
 
 SELF_JOIN = "A table can't be joined to itself: read it twice in your program, or keep a copy of it."
@@ -95,8 +96,8 @@ _NAMES = ("create", "column definition", "drop", "insert", "update", "set", "del
 
 
 def shown(token: Token) -> str:
-    """The token in words, cut where it is long."""
-    text = token.text if len(token.text) <= 40 else token.text[:37] + "..."
+    """The token in words, cut where it is long, with control characters written out."""
+    text = safe(token.text if len(token.text) <= 40 else token.text[:37] + "...")
     return f"'{text}'" if token.kind == SYMBOL else text
 
 

@@ -293,6 +293,7 @@ def excerpt(text: str, fault: Fault) -> str:
     at, end = fault.at - start, max(fault.at - start + 1, min(fault.end - start, len(line)))
     cut = max(0, at - 50)
     before = ("..." if cut else "") + table.safe(line[cut:at])
+    end = min(end, at + 60)
     wrong = table.safe(line[at:end])
     after = table.safe(line[end:end + 30]) + ("..." if len(line) > end + 30 else "")
     head = f"LINE {fault.line}: "

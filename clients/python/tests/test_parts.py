@@ -102,6 +102,9 @@ class Grammar(unittest.TestCase):
         self.assertEqual((fault.line, fault.column, fault.at, fault.end), (3, 10, 25, 27))
         self.assertEqual(str(fault), "line 3, column 10: IS can't stand here; expected a comparison, such as =")
 
+    def test_no_control_character_is_repeated(self) -> None:
+        self.assertTrue(str(fault_of("SELECT 'a\x1b[31m\n' FROM t")).isprintable())
+
     def test_each_hint(self) -> None:
         for text, wrong, hint in (
                 ("SELECT DISTINCT v FROM t", "DISTINCT", "GROUP BY c"), ("SELECT MAX(k) FROM t", "MAX", "DESC LIMIT 1"),
