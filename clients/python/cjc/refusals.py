@@ -22,7 +22,11 @@ UNSETTLED = (40, 44)
 
 @dataclass(frozen=True)
 class Meaning:
-    """A refusal in words. `{a}` and `{b}` are its numbers, `{fault}`, `{failed}` and `{starved}` are these in words."""
+    """A refusal in words. Its sentence has the numbers as `{a}` and `{b}`.
+
+    `{fault}` is the fault `a` in words, `{of_a}` and `{of_b}` are the backends of the masks, and `{and_b}` says of those
+    of `b`, if there are any, that they ran out of memory.
+    """
 
     name: str
     kind: type[Error]
@@ -69,15 +73,15 @@ MEANINGS = {
                 "DELETE rows, or use another table."),
     30: Meaning("TooLarge", OperationalError, "the answer would have {a} bytes, and a reply has at most 1,048,576",
                 "Ask for fewer columns, or for fewer rows by WHERE and LIMIT."),
-    40: Meaning("Unfinished", OperationalError, "every backend failed in the change ({failed}{starved})",
+    40: Meaning("Unfinished", OperationalError, "every backend failed in the change ({of_a}{and_b})",
                 "It isn't known whether a backend made it. Look before you repeat it; the operator must restart cjc."),
-    41: Meaning("ReadFault", OperationalError, "every backend that could answer failed in it ({failed})",
+    41: Meaning("ReadFault", OperationalError, "every backend that could answer failed in it ({of_a})",
                 "Nothing was changed: repeat the SELECT."),
     42: Meaning("LogFault", OperationalError, "the server couldn't write its recovery log, and made no change",
                 "The operator must look at the server's disk. You may repeat the statement."),
     43: Meaning("NoMemory", OperationalError, "the server is out of memory, and made no change",
                 "Repeat it later, or with fewer rows."),
-    44: Meaning("StarvedAll", OperationalError, "every backend ran out of memory in the change ({starved})",
+    44: Meaning("StarvedAll", OperationalError, "every backend ran out of memory in the change ({of_b})",
                 "It isn't known whether a backend made it. Look before you repeat it; the operator must restart cjc."),
     45: Meaning("HistoryFull", OperationalError, "the server's history is full",
                 "The operator must start the server with a new log."),
@@ -102,10 +106,9 @@ def error_of(refused: Refused) -> Error:
     code, a, b = refused.code, refused.a, refused.b
     meaning = MEANINGS.get(code) or Meaning("", DatabaseError, "the server refused with a code that isn't known here",
                                             _OTHER_CLIENT)
-    starved = _backends(b) + " out of memory" if b else ""
     said = meaning.said.format(
-        a=a, b=b, fault=_FRAME_FAULTS.get(a, f"fault {a}"), failed=_backends(a),
-        starved=f", {starved}" if code == 40 and starved else starved)
+        a=a, b=b, fault=_FRAME_FAULTS.get(a, f"fault {a}"), of_a=_backends(a), of_b=_backends(b),
+        and_b=f"; {_backends(b)} ran out of memory" if b else "")
     words = f"{code} {meaning.name}".rstrip()
     return meaning.kind(f"{words}: {said}", advice=meaning.advice, code=code, name=meaning.name, a=a, b=b,
                         outcome_unknown=code in UNSETTLED)

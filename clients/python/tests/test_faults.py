@@ -90,10 +90,20 @@ class Faults(OverToy):
 
     def test_numbers_in_words(self) -> None:
         for code, a, b, words in ((25, 8, 0, "transaction 8"), (29, 65537, 0, "65537"), (30, 2000000, 0, "2000000"),
-                                  (40, 5, 2, "backends 0 and 2, backend 1 out of memory"), (41, 1, 0, "backend 0"),
-                                  (44, 0, 7, "backends 0, 1 and 2"), (1, 2, 0, "over 1,048,576"), (46, 9, 0, "9 sess")):
+                                  (40, 5, 2, "(backends 0 and 2; backend 1 ran out of memory)"), (41, 1, 0, "backend 0"),
+                                  (44, 0, 7, "(backends 0, 1 and 2)"), (1, 2, 0, "over 1,048,576"), (46, 9, 0, "9 sess")):
             error, _ = self.misbehave(SELECT, toy.answers(toy.refused(code, a, b)))
             self.assertIn(words, str(error))
+
+    def test_sizes_of_replies(self) -> None:
+        """Replies around the room that is there at first, and the longest of all."""
+        cursor = self.connect(autocommit=True).cursor()
+        rest = len(toy.rows_frame(["v"], [("",)]))
+        for size in (*range(16_382, 16_387), 1_048_575 + 4, 1_048_576 + 4):
+            frame = toy.rows_frame(["v"], [("x" * (size - rest),)])
+            self.assertEqual(len(frame), size)
+            self.toy.tricks[SELECT] = toy.answers(frame)
+            self.assertEqual(cursor.execute(SELECT).fetchall(), [("x" * (size - rest),)])
 
     def test_garbage(self) -> None:
         for name, data in GARBAGE.items():
