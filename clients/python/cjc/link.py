@@ -30,6 +30,8 @@ class Link:
         """Connects. Fails with OSError. `timeout` is in seconds, for connecting and for each exchange."""
         self.timeout = timeout
         self._room = memoryview(bytearray(_ROOM))
+        # A server that is full may refuse before it is asked, so the first reply may come early.
+        self._is_new = True
         self._socket = socket.create_connection((host, port), timeout)
         self._socket.setsockopt(socket.IPPROTO_TCP, socket.TCP_NODELAY, 1)
         self._socket.setsockopt(socket.SOL_SOCKET, socket.SO_KEEPALIVE, 1)
@@ -64,7 +66,10 @@ class Link:
         self._socket.settimeout(left)
 
     def _check_quiet(self) -> None:
-        """Fails if the other side has closed, or has sent what nobody asked for."""
+        """Fails if the other side has closed, or has sent what nobody asked for, but before the first request."""
+        if self._is_new:
+            self._is_new = False
+            return
         self._socket.settimeout(0)
         try:
             if self._socket.recv(1, socket.MSG_PEEK):

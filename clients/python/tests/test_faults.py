@@ -5,6 +5,7 @@ import socket
 import threading
 import time
 import unittest
+from typing import Any
 from unittest import mock
 
 import cjc
@@ -293,6 +294,26 @@ class NoServer(unittest.TestCase):
         with self.assertRaisesRegex(cjc.OperationalError, "can't connect to 127.0.0.1") as caught:
             cjc.connect("127.0.0.1", port, "a", "b", timeout=5)
         self.assertIn("cjc serve", caught.exception.advice)
+
+    def test_a_refusal_before_the_login(self) -> None:
+        with socket.create_server(("127.0.0.1", 0)) as listening:
+            def serve() -> None:
+                with listening.accept()[0] as one:
+                    one.sendall(toy.refused(46, 1024))
+
+            thread = threading.Thread(target=serve)
+            thread.start()
+            create = socket.create_connection
+
+            def late(*arguments: Any) -> socket.socket:
+                """A connection that is used only after the server has closed it."""
+                one = create(*arguments)
+                thread.join()
+                return one
+
+            with mock.patch.object(socket, "create_connection", late):
+                with self.assertRaisesRegex(cjc.OperationalError, "46 SessionsFull: 1024 sessions"):
+                    cjc.connect("127.0.0.1", listening.getsockname()[1], "a", "b", timeout=5)
 
     def test_early_ends(self) -> None:
         """A server that closes, sends garbage, refuses or is silent in place of the answer to the login."""
