@@ -43,11 +43,11 @@ pub struct BookParts {
 
 /// The log of a cluster, and what follows from its history.
 ///
-/// The history is what the book's seat at the board has seen, and no list of events is kept: each event comes to the board in the
-/// call that brings it. A mask has bit b for backend b. Entries are numbered from 1.
+/// The history is what the book's seat at the board has seen, and no list of events is kept: each event comes to the
+/// board in the call that brings it. A mask has bit b for backend b. Entries are numbered from 1.
 ///
-/// The recovery log is beside it (`BookLog`). An entry or a marker is pending while its item is on its way into the log. Then no
-/// other event comes. Reads go on.
+/// The recovery log is beside it (`BookLog`). An entry or a marker is pending while its item is on its way into the
+/// log. Then no other event comes. Reads go on.
 #[derive(Drop)]
 pub struct Book {
     pub(crate) alloc: Global,
@@ -120,11 +120,11 @@ fn entry_error(error: OpeningError) -> StartError
 }
 
 impl Book {
-    /// Opens the book of the log in a store, which is begun where the store is new, at a seat that has seen nothing. What it finds
-    /// comes to the board. The log is beside the book, and follows its history.
+    /// Opens the book of the log in a store, which is begun where the store is new, at a seat that has seen nothing.
+    /// What it finds comes to the board. The log is beside the book, and follows its history.
     ///
-    /// The items of the log are read first (`BadRecord`), and then the history that they open with (`BadEntry`). Refused, it hands
-    /// the store back, in which nothing was written but the bytes of a new file.
+    /// The items of the log are read first (`BadRecord`), and then the history that they open with (`BadEntry`).
+    /// Refused, it hands the store back, in which nothing was written but the bytes of a new file.
     pub fn open<S: Store>(
         alloc: Global,
         parts: BookParts,
@@ -180,9 +180,9 @@ impl Book {
         }
     }
 
-    /// Shows what holds of all books: the history is one that can be, the seat has seen it, and the numbers of open sessions were
-    /// given. At most one entry is open, and its end has room in the history. A session that has an own pass is open. While an entry
-    /// or a marker is pending, no entry is open.
+    /// Shows what holds of all books: the history is one that can be, the seat has seen it, and the numbers of open
+    /// sessions were given. At most one entry is open, and its end has room in the history. A session that has an own
+    /// pass is open. While an entry or a marker is pending, no entry is open.
     pub fn legal(&self)
         ensures legal { IsLegal self.now.state.history }
         ensures front { self.now.view.front ≡ self.now.state.history }

@@ -33,8 +33,8 @@ fn marker_of(after: u64, name: &Name, b: Option<u8>) -> LogMarker
 }
 
 impl Book {
-    /// Marks a checkpoint while no entry is open, and answers how many entries stand before it. It stands in the log before it
-    /// comes into the history.
+    /// Marks a checkpoint while no entry is open, and answers how many entries stand before it. It stands in the log
+    /// before it comes into the history.
     pub fn mark<S: Store>(
         &mut self,
         recovery_log: &mut BookLog<S>,
@@ -64,8 +64,8 @@ impl Book {
         self.finish_marker(board, name, b, appended)
     }
 
-    /// Begins a checkpoint's marker, which is then pending, and answers its item for the log. All memory is taken that its end needs
-    /// (`finish_marker`). Refused, the book is as it was.
+    /// Begins a checkpoint's marker, which is then pending, and answers its item for the log. All memory is taken
+    /// that its end needs (`finish_marker`). Refused, the book is as it was.
     pub fn begin_marker(&mut self, name: &Name, b: Option<u8>) -> Result<LogItem, BookError>
         requires pending { self.old.pending ≡ None }
         requires is_free { is_free self.old.state.history ≡ true }
@@ -86,8 +86,8 @@ impl Book {
         Ok(LogItem::Marker(marker_of(number, name, b)))
     }
 
-    /// Ends what `begin_marker` began, once the log was asked to append the item. The marker comes, or the event of the log's fault.
-    /// Where the log wanted memory, none comes. It takes no memory.
+    /// Ends what `begin_marker` began, once the log was asked to append the item. The marker comes, or the event of
+    /// the log's fault. Where the log wanted memory, none comes. It takes no memory.
     pub fn finish_marker(
         &mut self,
         board: &Board,
