@@ -1,30 +1,62 @@
 //! The program: hands files, the standard streams and the clock to `run` of `cj_top`, for the command that its words
-//! say.
+//! say, and to `explain` of `cj_explain`, which tells why it ended with an error.
 //!
-//! Promised: all that `run` promises, for what `cj_edge` tells of these objects. This file has no contract of its
-//! own; `checks/` tries the built program.
+//! Promised: all that `run` and `explain` promise, for what `cj_edge` tells of these objects. This file has no contract
+//! of its own; `checks/` tries the built program.
 //! To change: which store a command gets as its log is `log_store`. Everything else of a command is in `cj_top`.
 #![tactic(auto)]
 
 use cj_edge::{
     FileStore, Patient, StdSink, StdSource, SystemClock, WordsError, fill_standard_streams, words,
 };
+use cj_explain::{NotedSink, NotedSource, Traces, explain, tell};
+use cj_outside::Sink;
 use cj_top::{paths, run};
+use std::alloc::Global;
 use std::fs::File;
+use std::io::ErrorKind;
 use std::process::ExitCode;
 use std::rt::Files;
+
+/// Returns the first word, or no text if there is none.
+fn verb(words: &[String]) -> &str {
+    words.first().map_or("", |word| word.as_str())
+}
+
+/// Returns the paths of the configuration and of the recovery log, or `None` if memory runs out. Where the words are no
+/// command `run` uses neither.
+fn file_paths(alloc: Global, words: &[String]) -> Option<(String, String)> {
+    let conf = paths(words).map_or("", |paths| paths.conf);
+    let Ok(log) = format!(in alloc; "{conf}.log") else {
+        return None;
+    };
+    let Ok(conf) = String::from_str(alloc, conf) else {
+        return None;
+    };
+    Some((conf, log))
+}
 
 /// Opens the recovery log as the command uses it. `log` leaves the file to the program that writes
 /// it. `gen`, and words that are no command, touch no file.
 fn log_store<R: Files<File = File>>(rt: R, words: &[String], path: String) -> FileStore<R> {
-    let verb = words.first().map_or("", |word| word.as_str());
-    if verb == "gen" || paths(words).is_none() {
+    if verb(words) == "gen" || paths(words).is_none() {
         return FileStore::none(rt, path);
     }
-    if verb == "log" {
+    if verb(words) == "log" {
         return FileStore::open_to_list(rt, path);
     }
     FileStore::open(rt, path)
+}
+
+/// Returns the status for words that can't be had. Those that aren't UTF-8 are a faulty command line, which is told.
+fn refuse_words<E: Sink>(error: WordsError, errors: &mut E) -> ExitCode {
+    match error {
+        WordsError::NoMemory => ExitCode::from(1),
+        WordsError::NotUtf8 => {
+            tell(2, "not UTF-8", errors);
+            ExitCode::from(2)
+        }
+    }
 }
 
 fn main(rt: HostRuntime) -> ExitCode {
@@ -33,27 +65,21 @@ fn main(rt: HostRuntime) -> ExitCode {
     if fill_standard_streams(&rt).is_err() {
         return ExitCode::from(1);
     }
+    let mut errors = NotedSink::new(rt.alloc(), StdSink::new(Patient::new(rt.stderr(), rt)));
     let words = match words(&rt) {
         Ok(words) => words,
-        Err(WordsError::NoMemory) => return ExitCode::from(1),
-        // A word that isn't UTF-8 is a faulty command line.
-        Err(WordsError::NotUtf8) => return ExitCode::from(2),
+        Err(error) => return refuse_words(error, &mut errors),
     };
-    // Where the words are no command `run` reads no configuration.
-    let conf_path = paths(&words).map_or("", |paths| paths.conf);
-    let Ok(log_path) = format!(in rt.alloc(); "{conf_path}.log") else {
-        return ExitCode::from(1);
-    };
-    let Ok(conf_path) = String::from_str(rt.alloc(), conf_path) else {
+    let Some((conf_path, log_path)) = file_paths(rt.alloc(), &words) else {
         return ExitCode::from(1);
     };
     let mut conf = FileStore::open_to_read(rt, conf_path);
     let log = log_store(rt, &words, log_path);
-    let mut input = StdSource::new(Patient::new(rt.reader(), rt));
+    let log_cause = log.cause();
+    let mut input = NotedSource::new(rt.alloc(), StdSource::new(Patient::new(rt.reader(), rt)));
     let mut output = StdSink::new(Patient::new(rt.stdout(), rt));
-    let mut errors = StdSink::new(Patient::new(rt.stderr(), rt));
     let clock = SystemClock::new(rt);
-    ExitCode::from(run(
+    let status = run(
         rt.alloc(),
         &words,
         &mut conf,
@@ -62,5 +88,15 @@ fn main(rt: HostRuntime) -> ExitCode {
         &mut output,
         &mut errors,
         &clock,
-    ))
+    );
+    let traces = Traces {
+        words: &words,
+        taken: input.taken(),
+        line: errors.line_number(),
+        conf: conf.cause(),
+        // If the configuration's file had no error, the log's is the one that failed.
+        log: log_cause.or(Some(ErrorKind::Other)),
+    };
+    explain(rt.alloc(), status, &traces, &mut conf, &mut errors);
+    ExitCode::from(status)
 }
