@@ -15,6 +15,6 @@ mod place;
 mod telling;
 mod traces;
 
-pub use noted::{NotedSink, NotedSource, Taken};
+pub use noted::{Noted, Notes};
 pub use telling::{explain, tell};
 pub use traces::Traces;

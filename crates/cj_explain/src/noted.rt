@@ -1,44 +1,10 @@
-//! A source and a sink that note what is needed to explain an end. Contracts see the source and the sink inside.
+//! Notes of what a run took from its input and wrote to its errors.
 
 ghost use Rattle.std.specs.Prelude.{◌≡◌};
 
 use cj_outside::{Failed, LINE_LIMIT, OutError, Sink, Source};
 use std::alloc::Global;
 use std::marker::Model;
-
-/// The most bytes that are noted of a sink. `line N` has fewer.
-const NOTE_LIMIT: usize = 32;
-
-/// Bytes, or none any more after memory ran out for them.
-#[derive(Drop)]
-struct Note {
-    bytes: Vec<u8>,
-    is_lost: bool,
-}
-
-impl Note {
-    fn new(alloc: Global) -> Note {
-        Note {
-            bytes: Vec::new(alloc),
-            is_lost: false,
-        }
-    }
-
-    /// Adds the piece, unless there are more bytes than this limit.
-    fn add(&mut self, piece: &[u8], limit: usize) {
-        if self.bytes.len() <= limit && self.bytes.extend_from_slice(piece).is_err() {
-            self.is_lost = true;
-        }
-    }
-
-    fn bytes(&self) -> Option<&[u8]> {
-        if self.is_lost {
-            None
-        } else {
-            Some(self.bytes.as_slice())
-        }
-    }
-}
 
 fn count_lines(bytes: &[u8]) -> u64 {
     bytes.iter().filter(|b| **b == b'\n').count() as u64
@@ -52,45 +18,61 @@ fn first_word(line: &[u8]) -> &str {
     std::str::from_utf8(word).unwrap_or("")
 }
 
-/// What was taken last of an input.
+/// The last pieces of a stream of lines.
 #[derive(Drop)]
-pub struct Taken {
-    /// Whether the last call found the input's end.
+pub struct Notes {
+    /// Whether the last piece was empty, as at the end of an input.
     has_ended: bool,
-    /// How many lines were played before those that are noted.
-    played: u64,
-    /// The lines that may not have been played yet. The last one may go on, and may be cut if it is too long.
-    lines: Note,
+    /// How many lines came before those that are kept.
+    dropped: u64,
+    /// The lines of the last piece, whole. The last one may go on, and is cut if it is longer than a line may be.
+    lines: Vec<u8>,
+    /// Whether memory ran out for the lines.
+    is_lost: bool,
 }
 
-impl Taken {
+impl Notes {
+    fn new(alloc: Global) -> Notes {
+        Notes {
+            has_ended: false,
+            dropped: 0,
+            lines: Vec::new(alloc),
+            is_lost: false,
+        }
+    }
+
     pub(crate) fn has_ended(&self) -> bool {
         self.has_ended
     }
 
-    /// Drops whole lines. More is asked for only after all of them were played.
+    /// Drops the lines that have ended. More of a script is taken only after these were played.
     fn drop_lines(&mut self) {
-        let lines = &mut self.lines.bytes;
-        let Some(last) = lines.iter().rposition(|b| *b == b'\n') else {
+        let Some(last) = self.lines.iter().rposition(|b| *b == b'\n') else {
             return;
         };
         let begun = last + 1;
-        self.played = self.played.saturating_add(count_lines(&lines[..begun]));
-        let left = lines.len() - begun;
-        lines.copy_within(begun.., 0);
-        lines.truncate(left);
+        let ended = count_lines(&self.lines[..begun]);
+        self.dropped = self.dropped.saturating_add(ended);
+        let left = self.lines.len() - begun;
+        self.lines.copy_within(begun.., 0);
+        self.lines.truncate(left);
     }
 
-    fn note(&mut self, piece: &[u8]) {
+    fn add(&mut self, piece: &[u8]) {
         self.has_ended = piece.is_empty();
         self.drop_lines();
         // A line that is too long already needs no more bytes.
-        self.lines.add(piece, LINE_LIMIT);
+        if self.lines.len() <= LINE_LIMIT && self.lines.extend_from_slice(piece).is_err() {
+            self.is_lost = true;
+        }
     }
 
     fn line(&self, number: u64) -> Option<&[u8]> {
-        let at = number.checked_sub(self.played)?.checked_sub(1)?;
-        self.lines.bytes()?.split(|b| *b == b'\n').nth(at as usize)
+        if self.is_lost {
+            return None;
+        }
+        let at = number.checked_sub(self.dropped)?.checked_sub(1)?;
+        self.lines.split(|b| *b == b'\n').nth(at as usize)
     }
 
     /// Returns what a row of the table is about that says what is wrong with the line of this number, from 1.
@@ -101,97 +83,72 @@ impl Taken {
             Some(line) => first_word(line),
         }
     }
+
+    /// Returns N if the lines that are kept are `line N`.
+    pub fn number(&self) -> Option<u64> {
+        let text = std::str::from_utf8(self.lines.as_slice()).ok()?;
+        let number = text.strip_prefix("line ")?.strip_suffix('\n')?;
+        if self.is_lost {
+            return None;
+        }
+        number.parse().ok()
+    }
 }
 
-/// A source that notes what is taken last of another one.
+/// A source or a sink whose last pieces are noted. Contracts see the source or the sink itself.
 #[derive(Drop)]
-pub struct NotedSource<I> {
-    inner: I,
-    taken: Taken,
+pub struct Noted<T> {
+    inner: T,
+    notes: Notes,
 }
 
-impl<I> Model for NotedSource<I> {
-    ghost Value = { I };
+impl<T> Model for Noted<T> {
+    ghost Value = { T };
 
     ghost view = { λ noted. noted.inner };
 }
 
-impl<I> NotedSource<I> {
-    pub fn new(alloc: Global, inner: I) -> NotedSource<I>
+impl<T> Noted<T> {
+    pub fn new(alloc: Global, inner: T) -> Noted<T>
         ensures { result ≡ inner }
     {
-        NotedSource {
+        Noted {
             inner,
-            taken: Taken {
-                has_ended: false,
-                played: 0,
-                lines: Note::new(alloc),
-            },
+            notes: Notes::new(alloc),
         }
     }
 
-    /// Returns what was taken last.
-    pub fn taken(&self) -> &Taken {
-        &self.taken
+    pub fn inner(&self) -> &T
+        ensures { result.now ≡ self.now }
+    {
+        &self.inner
+    }
+
+    pub fn notes(&self) -> &Notes {
+        &self.notes
     }
 }
 
-impl<I: Source> Source for NotedSource<I> {
+impl<I: Source> Source for Noted<I> {
     ghost left = { λ noted. I.left noted };
 
     ghost faults = { λ noted. I.faults noted };
 
     fn take(&mut self, buf: &mut [u8]) -> Result<usize, Failed> {
         let count = self.inner.take(buf)?;
-        self.taken.note(&buf[..count]);
+        self.notes.add(&buf[..count]);
         Ok(count)
     }
 }
 
-/// A sink that notes what another one takes first.
-#[derive(Drop)]
-pub struct NotedSink<O> {
-    inner: O,
-    begun: Note,
-}
-
-impl<O> Model for NotedSink<O> {
-    ghost Value = { O };
-
-    ghost view = { λ noted. noted.inner };
-}
-
-impl<O> NotedSink<O> {
-    pub fn new(alloc: Global, inner: O) -> NotedSink<O>
-        ensures { result ≡ inner }
-    {
-        NotedSink {
-            inner,
-            begun: Note::new(alloc),
-        }
-    }
-
-    pub fn inner(&self) -> &O
-        ensures { result.now ≡ self.now }
-    {
-        &self.inner
-    }
-
-    /// Returns N if `line N` was written, and nothing else.
-    pub fn line_number(&self) -> Option<u64> {
-        let text = std::str::from_utf8(self.begun.bytes()?).ok()?;
-        text.strip_prefix("line ")?.strip_suffix('\n')?.parse().ok()
-    }
-}
-
-impl<O: Sink> Sink for NotedSink<O> {
+impl<O: Sink> Sink for Noted<O> {
     ghost held = { λ noted. O.held noted };
 
     ghost faults = { λ noted. O.faults noted };
 
     fn put(&mut self, piece: &[u8]) -> Result<usize, OutError> {
         let count = self.inner.put(piece)?;
-        self.begun.add(&piece[..count], NOTE_LIMIT);
+        self.notes.add(&piece[..count]);
         Ok(count)
     }
 }

@@ -1,6 +1,6 @@
 //! What is told of an end, found in what the run left behind.
 
-use crate::noted::Taken;
+use crate::noted::Notes;
 use std::io::ErrorKind;
 
 /// What a run left behind.
@@ -9,7 +9,7 @@ pub struct Traces<'a> {
     /// The words after the program's name.
     pub words: &'a [String],
     /// What it took last of its input.
-    pub taken: &'a Taken,
+    pub input: &'a Notes,
     /// N, if it wrote `line N` to the errors.
     pub line: Option<u64>,
     /// How the configuration's file failed, if it is known that it did.
@@ -57,11 +57,11 @@ impl Traces<'_> {
     /// Returns what the line is about that is told at this status, as `LINES` has it.
     pub(crate) fn cause(&self, status: u8) -> &str {
         match status {
-            4 if self.taken.has_ended() => "cut",
+            4 if self.input.has_ended() => "cut",
             7 => self.file_cause(),
             8 if self.log_command() => "listing",
             10 => match self.line {
-                Some(number) => self.taken.cause_of_line(number),
+                Some(number) => self.input.cause_of_line(number),
                 None => "a lost line",
             },
             _ => "",

@@ -9,7 +9,7 @@
 use cj_edge::{
     FileStore, Patient, StdSink, StdSource, SystemClock, WordsError, fill_standard_streams, words,
 };
-use cj_explain::{NotedSink, NotedSource, Traces, explain, tell};
+use cj_explain::{Noted, Traces, explain, tell};
 use cj_outside::Sink;
 use cj_top::{paths, run};
 use std::alloc::Global;
@@ -18,34 +18,31 @@ use std::io::ErrorKind;
 use std::process::ExitCode;
 use std::rt::Files;
 
-/// Returns the first word, or no text if there is none.
-fn verb(words: &[String]) -> &str {
-    words.first().map_or("", |word| word.as_str())
-}
-
-/// Returns the paths of the configuration and of the recovery log, or `None` if memory runs out. Where the words are no
-/// command `run` uses neither.
-fn file_paths(alloc: Global, words: &[String]) -> Option<(String, String)> {
-    let conf = paths(words).map_or("", |paths| paths.conf);
-    let Ok(log) = format!(in alloc; "{conf}.log") else {
-        return None;
-    };
-    let Ok(conf) = String::from_str(alloc, conf) else {
-        return None;
-    };
-    Some((conf, log))
-}
-
 /// Opens the recovery log as the command uses it. `log` leaves the file to the program that writes
 /// it. `gen`, and words that are no command, touch no file.
 fn log_store<R: Files<File = File>>(rt: R, words: &[String], path: String) -> FileStore<R> {
-    if verb(words) == "gen" || paths(words).is_none() {
+    let verb = words.first().map_or("", |word| word.as_str());
+    if verb == "gen" || paths(words).is_none() {
         return FileStore::none(rt, path);
     }
-    if verb(words) == "log" {
+    if verb == "log" {
         return FileStore::open_to_list(rt, path);
     }
     FileStore::open(rt, path)
+}
+
+/// Opens the configuration and the recovery log, or returns `None` if memory runs out. Where the words are no command
+/// `run` uses neither.
+fn stores<R: Files<File = File> + Copy>(
+    alloc: Global,
+    rt: R,
+    words: &[String],
+) -> Option<(FileStore<R>, FileStore<R>)> {
+    let path = paths(words).map_or("", |paths| paths.conf);
+    let log_path = format!(in alloc; "{path}.log").ok()?;
+    let conf_path = String::from_str(alloc, path).ok()?;
+    let conf = FileStore::open_to_read(rt, conf_path);
+    Some((conf, log_store(rt, words, log_path)))
 }
 
 /// Returns the status for words that can't be had. Those that aren't UTF-8 are a faulty command line, which is told.
@@ -65,18 +62,16 @@ fn main(rt: HostRuntime) -> ExitCode {
     if fill_standard_streams(&rt).is_err() {
         return ExitCode::from(1);
     }
-    let mut errors = NotedSink::new(rt.alloc(), StdSink::new(Patient::new(rt.stderr(), rt)));
+    let mut errors = Noted::new(rt.alloc(), StdSink::new(Patient::new(rt.stderr(), rt)));
     let words = match words(&rt) {
         Ok(words) => words,
         Err(error) => return refuse_words(error, &mut errors),
     };
-    let Some((conf_path, log_path)) = file_paths(rt.alloc(), &words) else {
+    let Some((mut conf, log)) = stores(rt.alloc(), rt, &words) else {
         return ExitCode::from(1);
     };
-    let mut conf = FileStore::open_to_read(rt, conf_path);
-    let log = log_store(rt, &words, log_path);
     let log_cause = log.cause();
-    let mut input = NotedSource::new(rt.alloc(), StdSource::new(Patient::new(rt.reader(), rt)));
+    let mut input = Noted::new(rt.alloc(), StdSource::new(Patient::new(rt.reader(), rt)));
     let mut output = StdSink::new(Patient::new(rt.stdout(), rt));
     let clock = SystemClock::new(rt);
     let status = run(
@@ -91,8 +86,8 @@ fn main(rt: HostRuntime) -> ExitCode {
     );
     let traces = Traces {
         words: &words,
-        taken: input.taken(),
-        line: errors.line_number(),
+        input: input.notes(),
+        line: errors.notes().number(),
         conf: conf.cause(),
         // If the configuration's file had no error, the log's is the one that failed.
         log: log_cause.or(Some(ErrorKind::Other)),

@@ -4,7 +4,7 @@ ghost use Rattle.std.specs.Prelude.{◌≡◌, [], IfOk, map, string_bytes};
 ghost use Rattle.cjc_cases.specs.Runs.{IsExplained, KeepsPromises, handed, objects_of};
 
 use cj_cases::{Case, LeftStore, Outcome, Pieces, Runner, Slot};
-use cj_explain::{NotedSink, NotedSource, Traces, explain};
+use cj_explain::{Noted, Traces, explain};
 use cj_model::NoMemory;
 use cj_outside::{FixedClock, MemSink, MemSource, MemStore};
 use cj_top::run;
@@ -23,9 +23,9 @@ pub struct Program;
 #[derive(Drop)]
 pub struct Objects {
     configuration: MemStore,
-    input: NotedSource<Pieces>,
+    input: Noted<Pieces>,
     output: MemSink,
-    errors: NotedSink<MemSink>,
+    errors: Noted<MemSink>,
 }
 
 fn store(alloc: Global, content: &[u8], fails: &[u64]) -> Result<MemStore, NoMemory>
@@ -34,13 +34,13 @@ fn store(alloc: Global, content: &[u8], fails: &[u64]) -> Result<MemStore, NoMem
     Ok(MemStore::new(content.to_vec(alloc)?, fails.to_vec(alloc)?))
 }
 
-fn source(alloc: Global, case: &Case) -> Result<NotedSource<Pieces>, NoMemory>
+fn source(alloc: Global, case: &Case) -> Result<Noted<Pieces>, NoMemory>
     ensures { IfOk result (λ source. source ≡ handed case.now.input case.now.fails.input) }
 {
     let content = case.input().to_vec(alloc)?;
     let source = MemSource::new(content, case.input_fails().to_vec(alloc)?);
     let pieces = Pieces::new(source, case.piece_limit());
-    Ok(NotedSource::new(alloc, pieces))
+    Ok(Noted::new(alloc, pieces))
 }
 
 fn sink(alloc: Global, fails: &[u64]) -> Result<MemSink, NoMemory>
@@ -56,7 +56,7 @@ fn handed_objects(alloc: Global, case: &Case) -> Result<Objects, NoMemory>
         configuration: store(alloc, case.configuration(), case.configuration_fails())?,
         input: source(alloc, case)?,
         output: sink(alloc, case.output_fails())?,
-        errors: NotedSink::new(alloc, sink(alloc, case.errors_fails())?),
+        errors: Noted::new(alloc, sink(alloc, case.errors_fails())?),
     })
 }
 
@@ -88,8 +88,8 @@ fn explain_over(alloc: Global, case: &Case, status: u8, objects: &mut Objects)
 {
     let traces = Traces {
         words: case.words(),
-        taken: objects.input.taken(),
-        line: objects.errors.line_number(),
+        input: objects.input.notes(),
+        line: objects.errors.notes().number(),
         conf: None,
         log: None,
     };
