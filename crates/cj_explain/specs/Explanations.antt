@@ -28,8 +28,8 @@ module _ (errors errors' : Option (List ℕ)) (before now : ℕ) where
   TellsNothing = (errors' ≡ errors) × (now ≡ before)
 
   -- a line of the table for this status, or nothing if it has none
-  abbrev pub TellsLine : ℕ → Type 0
-  TellsLine status = ((line : List ℕ) × HasLine status line × TellsText line) ⊎ (HasNoLine status × TellsNothing)
+  abbrev pub TellsListedLine : ℕ → Type 0
+  TellsListedLine status = ((line : List ℕ) × HasLine status line × TellsText line) ⊎ (HasNoLine status × TellsNothing)
 
   -- a text that ends with LF, or nothing
   abbrev pub TellsPlace : Type 0
@@ -37,4 +37,4 @@ module _ (errors errors' : Option (List ℕ)) (before now : ℕ) where
 
   -- What is told at the end with this status. 3 is that of a refused configuration.
   abbrev pub Explains : ℕ → Type 0
-  Explains status = (status ≢ 3) × TellsLine status ⊎ (status ≡ 3) × TellsPlace
+  Explains status = (status ≢ 3) × TellsListedLine status ⊎ (status ≡ 3) × TellsPlace

@@ -1,7 +1,7 @@
 //! Tells why the program ends with an error.
 
 ghost use Rattle.std.specs.Prelude.{◌≡◌, true};
-ghost use Rattle.cj_explain.specs.Explanations.{Explains, TellsLine, TellsPlace};
+ghost use Rattle.cj_explain.specs.Explanations.{Explains, TellsListedLine, TellsPlace};
 
 use crate::lines::line_of;
 use crate::place::place_line;
@@ -11,7 +11,7 @@ use std::alloc::Global;
 
 /// Tells the line of the table for this status and this cause, if there is one. A failure changes nothing else.
 pub fn tell<E: Sink>(status: u8, cause: &str, errors: &mut E)
-    ensures { TellsLine (E.held errors.old) (E.held errors.new) (E.faults errors.old) (E.faults errors.new) status }
+    ensures { TellsListedLine (E.held errors.old) (E.held errors.new) (E.faults errors.old) (E.faults errors.new) status }
 {
     if let Some(line) = line_of(status, cause) {
         let _ = write_all(errors, line.as_bytes());
