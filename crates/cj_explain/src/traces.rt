@@ -48,7 +48,8 @@ impl Traces<'_> {
         }
     }
 
-    fn log_command(&self) -> bool {
+    /// Whether the command lists the log.
+    fn lists_log(&self) -> bool {
         self.words
             .first()
             .is_some_and(|word| word.as_str() == "log")
@@ -59,7 +60,7 @@ impl Traces<'_> {
         match status {
             4 if self.input.has_ended() => "cut",
             7 => self.file_cause(),
-            8 if self.log_command() => "listing",
+            8 if self.lists_log() => "listing",
             10 => match self.line {
                 Some(number) => self.input.cause_of_line(number),
                 None => "a lost line",

@@ -20,5 +20,5 @@ returns c =
       last = told.new.objects;
       explained = told.ensures;
       output = c.in_ok-copied.ensures ∙ ap (λ (s : State). s.bytes) told.ensures.output;
-      errors = c.in_ok-copied-2.ensures;
+      errors = c.in_ok-copied-2.ensures ∙ ap (λ (s : State). s.bytes) c.inner.ensures;
     }
