@@ -8,6 +8,7 @@ use Rattle.cj_cases.specs.declared.runner.Outcome.{Outcome}
 use Rattle.cj_args.specs.Words.{AsksCommand, Says}
 use Rattle.cj_args.specs.declared.asked.Asked.{Asked}
 use Rattle.cj_args.specs.declared.asked.Command.{Command}
+use Rattle.cj_explain.specs.Explanations.{Explains}
 use Rattle.cj_top.specs.Completeness.{ByStore, CompletesCommand, CountsNoFault}
 use Rattle.cj_top.specs.Configured.{WritesRefusal}
 use Rattle.cj_top.specs.Logs.{Found, HasFailed, RefusesLog, StopsAtLog, TellsRefusal}
@@ -56,9 +57,17 @@ pub record KeepsPromises (words : List (List ℕ)) (log : State) (moment : ℤ) 
   pub complete : (command : Command) → Says words command → CountsNoFault a.configuration.faults z.configuration.faults → CountsNoFault a.input.faults z.input.faults → CountsNoFault a.output.faults z.output.faults → status ≢ 1 → status ≢ 7 → status ≢ 8 → status ≢ 12 →
       ByStore true a.configuration.bytes (CompletesCommand command (Some a.input.bytes) (Some a.output.bytes) (Some z.output.bytes) status) status
 
--- the status of the outcome, and what it wrote, are those of a run of the program over the objects of the case
+-- The errors were told why a run ended with this status, and the output is as it was.
+pub record IsExplained (a z : Objects) (status : ℕ) : Type 0 where
+  pub told : Explains (Some a.errors.bytes) (Some z.errors.bytes) a.errors.faults z.errors.faults status
+  pub output : z.output ≡ a.output
+
+-- A run of the case gave this: its status and the output are those of the program over the objects of the case. The
+-- errors are what that run wrote, and the explanation of its status after it.
 pub record GivesAsRun (c : CaseState) (outcome : Outcome) : Type 0 where
   pub left : Objects
   pub keeps : KeepsPromises c.words (handed c.log c.fails.log) MOMENT (objects_of c) left outcome.status
+  pub last : Objects
+  pub explained : IsExplained left last outcome.status
   pub output : outcome.output.items ≡ left.output.bytes
-  pub errors : outcome.errors.items ≡ left.errors.bytes
+  pub errors : outcome.errors.items ≡ last.errors.bytes

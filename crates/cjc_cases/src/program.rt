@@ -1,9 +1,10 @@
 //! The program on a case, over memory.
 
 ghost use Rattle.std.specs.Prelude.{◌≡◌, [], IfOk, map, string_bytes};
-ghost use Rattle.cjc_cases.specs.Runs.{KeepsPromises, handed, objects_of};
+ghost use Rattle.cjc_cases.specs.Runs.{IsExplained, KeepsPromises, handed, objects_of};
 
 use cj_cases::{Case, LeftStore, Outcome, Pieces, Runner, Slot};
+use cj_explain::{Noted, Traces, explain};
 use cj_model::NoMemory;
 use cj_outside::{FixedClock, MemSink, MemSource, MemStore};
 use cj_top::run;
@@ -22,9 +23,9 @@ pub struct Program;
 #[derive(Drop)]
 pub struct Objects {
     configuration: MemStore,
-    input: Pieces,
+    input: Noted<Pieces>,
     output: MemSink,
-    errors: MemSink,
+    errors: Noted<MemSink>,
 }
 
 fn store(alloc: Global, content: &[u8], fails: &[u64]) -> Result<MemStore, NoMemory>
@@ -33,12 +34,13 @@ fn store(alloc: Global, content: &[u8], fails: &[u64]) -> Result<MemStore, NoMem
     Ok(MemStore::new(content.to_vec(alloc)?, fails.to_vec(alloc)?))
 }
 
-fn source(alloc: Global, case: &Case) -> Result<Pieces, NoMemory>
+fn source(alloc: Global, case: &Case) -> Result<Noted<Pieces>, NoMemory>
     ensures { IfOk result (λ source. source ≡ handed case.now.input case.now.fails.input) }
 {
     let content = case.input().to_vec(alloc)?;
     let source = MemSource::new(content, case.input_fails().to_vec(alloc)?);
-    Ok(Pieces::new(source, case.piece_limit()))
+    let pieces = Pieces::new(source, case.piece_limit());
+    Ok(Noted::new(alloc, pieces))
 }
 
 fn sink(alloc: Global, fails: &[u64]) -> Result<MemSink, NoMemory>
@@ -54,7 +56,7 @@ fn handed_objects(alloc: Global, case: &Case) -> Result<Objects, NoMemory>
         configuration: store(alloc, case.configuration(), case.configuration_fails())?,
         input: source(alloc, case)?,
         output: sink(alloc, case.output_fails())?,
-        errors: sink(alloc, case.errors_fails())?,
+        errors: Noted::new(alloc, sink(alloc, case.errors_fails())?),
     })
 }
 
@@ -78,6 +80,26 @@ fn run_over(
         &mut objects.errors,
         clock,
     )
+}
+
+/// Tells why a run of the case ended with this status.
+fn explain_over(alloc: Global, case: &Case, status: u8, objects: &mut Objects)
+    ensures { IsExplained objects.old objects.new status }
+{
+    let traces = Traces {
+        words: case.words(),
+        input: objects.input.notes(),
+        line: objects.errors.notes().number(),
+        conf: None,
+        log: None,
+    };
+    explain(
+        alloc,
+        status,
+        &traces,
+        &mut objects.configuration,
+        &mut objects.errors,
+    );
 }
 
 fn copied(alloc: Global, sink: &MemSink) -> Result<Vec<u8>, NoMemory>
@@ -109,10 +131,11 @@ impl Runner for Program {
         let mut objects = handed_objects(alloc, case)?;
         let clock = FixedClock::new(MOMENT);
         let status = run_over(alloc, case.words(), log, &mut objects, &clock);
+        explain_over(alloc, case, status, &mut objects);
         Ok(Outcome {
             status,
             output: copied(alloc, &objects.output)?,
-            errors: copied(alloc, &objects.errors)?,
+            errors: copied(alloc, objects.errors.inner())?,
             log: left(alloc, &slot)?,
         })
     }

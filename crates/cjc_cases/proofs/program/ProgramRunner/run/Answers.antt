@@ -1,4 +1,5 @@
-use Rattle.std.proofs.Common.{◌≡◌, map}
+use Rattle.std.proofs.Common.{◌≡◌, ◌∙◌, ap, map}
+use Rattle.cj_outside.specs.Memory.{State}
 use Rattle.std.specs.Prelude.{string_bytes}
 use Rattle.cjc_cases.proofs.Kept.{kept_at}
 use Rattle.cjc_cases.specs.Runs.{handed, objects_of}
@@ -12,4 +13,12 @@ returns c =
     let log : c.new-log.result ≡ handed case.log case.fails.log = cc (c.new-log.ensures, c.in_ok-store.ensures, c.log.ensures, c.log_fails.ensures) in
     let keeps = kept_at (map string_bytes c.words.result.now) case.words c.new-log.result (handed case.log case.fails.log) c.new-clock.result MOMENT c.in_ok-objects.objects (objects_of case)
     ran.new.objects ran.result c.words.ensures log c.new-clock.ensures c.in_ok-objects.ensures ran.ensures in
-    record { left = ran.new.objects; keeps = keeps; output = c.in_ok-copied.ensures; errors = c.in_ok-copied-2.ensures }
+    let told = c.explain_over in
+    record {
+      left = ran.new.objects;
+      keeps = keeps;
+      last = told.new.objects;
+      explained = told.ensures;
+      output = c.in_ok-copied.ensures ∙ ap (λ (s : State). s.bytes) told.ensures.output;
+      errors = c.in_ok-copied-2.ensures ∙ ap (λ (s : State). s.bytes) c.inner.ensures;
+    }
