@@ -28,8 +28,8 @@ fn log_store<R: Files<File = File>>(rt: R, words: &[String], path: String) -> Fi
 }
 
 fn main(rt: HostRuntime) -> ExitCode {
-    // Before the first file, which would take the place of a stream that is closed. Which one that is isn't known, and
-    // none was used yet, so the status is the one for out of memory.
+    // Before the first file, which would take the place of a stream that is closed. Which one that is isn't known,
+    // and none was used yet, so the status is the one for out of memory.
     if fill_standard_streams(&rt).is_err() {
         return ExitCode::from(1);
     }
@@ -53,7 +53,7 @@ fn main(rt: HostRuntime) -> ExitCode {
     let mut output = StdSink::new(Patient::new(rt.stdout(), rt));
     let mut errors = StdSink::new(Patient::new(rt.stderr(), rt));
     let clock = SystemClock::new(rt);
-    ExitCode::from(run(
+    let ended = run(
         rt.alloc(),
         &words,
         &mut conf,
@@ -62,5 +62,6 @@ fn main(rt: HostRuntime) -> ExitCode {
         &mut output,
         &mut errors,
         &clock,
-    ))
+    );
+    ExitCode::from(ended.status)
 }
