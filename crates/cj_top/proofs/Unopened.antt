@@ -1,5 +1,5 @@
 -- Logs that are not opened, and what their stores are left as.
-use Rattle.std.proofs.Common.{◌≡◌, ◌≢◌, ◌⊎◌, inl, inr, ℕ, Bool, true, List, length, Result, Ok, Err, refl, sym, subst, arith}
+use Rattle.std.proofs.Common.{◌≡◌, ◌≢◌, ◌⊎◌, ◌≤◌, inl, inr, ℕ, Bool, true, List, length, Result, Ok, Err, refl, sym, subst, arith}
 use Rattle.cj_top.proofs.Common.{IfErr, IfOk, StartError, WorldState}
 use Rattle.cj_book.specs.declared.error.StartError.TheVariants as errors
 use Rattle.cj_book.specs.Found.{start_error_of}

@@ -25,7 +25,7 @@ use cj_backend::Backend;
 use cj_book::StartError;
 use cj_cluster::SessionEnd;
 use cj_conf::Conf;
-use cj_core::{Backends, Shared, World};
+use cj_core::{Backends, World};
 use cj_desk::Desk;
 use cj_mem::MemBackend;
 use cj_outside::{Clock, PcgDraw, Sink, Source, Store};
@@ -142,14 +142,10 @@ fn log_over_memory<S: Store + Drop>(world: World<MemBackend, S>) -> S
     ensures left { IsLogOf S.faults S.held S.may S.tells world result }
     ensures none { (b : ℕ) → slice_index_or (faults_of world.cells) b 0 ≡ 0 }
 {
-    let Shared {
-        recovery_log,
-        cells,
-        ..
-    } = world.into_shared();
-    show_none(&cells);
-    recovery_log.legal();
-    recovery_log.into_log()
+    let shared = world.into_shared();
+    show_none(&shared.cells);
+    shared.recovery_log.legal();
+    shared.recovery_log.into_log()
 }
 
 /// The command `pipe` with this configuration: serves one session over the log. Answers the exit status of its end,

@@ -22,7 +22,7 @@ use crate::configured::{any_backends, are_in_memory, flaky, memory_backends, par
 use cj_backend::Backend;
 use cj_book::StartError;
 use cj_conf::Conf;
-use cj_core::{Backends, Shared, World};
+use cj_core::{Backends, World};
 use cj_flaky::Armable;
 use cj_mem::MemBackend;
 use cj_model::NoMemory;
@@ -94,14 +94,10 @@ fn log_over_memory<S: Store + Drop>(world: World<Armable<MemBackend>, S>) -> S
     ensures left { IsLogOf S.faults S.held S.may S.tells world result }
     ensures armed { HasFailedOnlyArmed world }
 {
-    let Shared {
-        recovery_log,
-        cells,
-        ..
-    } = world.into_shared();
-    show_armed(&cells);
-    recovery_log.legal();
-    recovery_log.into_log()
+    let shared = world.into_shared();
+    show_armed(&shared.cells);
+    shared.recovery_log.legal();
+    shared.recovery_log.into_log()
 }
 
 /// Plays the lines of the input on a world of new backends, as the configuration has them, over the log, and writes

@@ -7,5 +7,6 @@ returns-in-Ok-play g c =
     let empty : c.new-log.result.bytes ≡ [] = ap (λ (s : State). s.bytes) c.new-log.ensures ∙ c.new.ensures.items in (
       c.in-Ok.world,
       subst (λ (held : List ℕ). BeginsAsConfigured g.B.Backend.tells c.args.conf (Found true held) c.in-Ok.world) empty c.in-Ok.ensures.begins,
-      c.in-Ok-play.ensures.played,
+      c.in-Ok-play.ensures.played.0,
+      c.in-Ok-play.ensures.played.1,
     )

@@ -71,6 +71,16 @@ returns-clause-runs g c =
     in
     subst (λ (t : Bool). RunsPipe t c.args.conf found goes_on (g.C.Clock.moment c.args.clock.now) (g.I.Source.left c.args.input.now) (g.I.Source.left c.pipe-2.new.input) (g.O.Sink.held c.args.output.now) (g.O.Sink.held c.pipe-2.new.output) c.status_of_session-2.result) (sym other) runs
 
+pub returns-then-are_in_memory-clause-input : goal.returns-then-are_in_memory-clause-input
+returns-then-are_in_memory-clause-input g c =
+    let fault = c.status_of_session.ensures.read_fault in
+    same_cause (c.in_ok-end.end ≡ ends.ReadFault) (c.status_of_session.result ≡ 5) _ _ fault.0 fault.1 c.in_ok-end.ensures.input
+
+pub returns-then-are_in_memory-clause-output : goal.returns-then-are_in_memory-clause-output
+returns-then-are_in_memory-clause-output g c =
+    let fault = c.status_of_session.ensures.write_fault in
+    same_cause (c.in_ok-end.end ≡ ends.WriteFault) (c.status_of_session.result ≡ 6) _ _ fault.0 fault.1 c.in_ok-end.ensures.output
+
 pub returns-clause-input : goal.returns-clause-input
 returns-clause-input g c =
     let fault = c.status_of_session-2.ensures.read_fault in
