@@ -57,8 +57,8 @@ fn refuse_words<E: Sink>(error: WordsError, errors: &mut E) -> ExitCode {
 }
 
 fn main(rt: HostRuntime) -> ExitCode {
-    // Before the first file, which would take the place of a stream that is closed. Which one that is isn't known, and
-    // none was used yet, so the status is the one for out of memory.
+    // Before the first file, which would take the place of a stream that is closed. Which one that is isn't known,
+    // and none was used yet, so the status is the one for out of memory.
     if fill_standard_streams(&rt).is_err() {
         return ExitCode::from(1);
     }
@@ -74,7 +74,7 @@ fn main(rt: HostRuntime) -> ExitCode {
     let mut input = Noted::new(rt.alloc(), StdSource::new(Patient::new(rt.reader(), rt)));
     let mut output = StdSink::new(Patient::new(rt.stdout(), rt));
     let clock = SystemClock::new(rt);
-    let status = run(
+    let ended = run(
         rt.alloc(),
         &words,
         &mut conf,
@@ -92,6 +92,6 @@ fn main(rt: HostRuntime) -> ExitCode {
         // If the configuration's file had no error, the log's is the one that failed.
         log: log_cause.or(Some(ErrorKind::Other)),
     };
-    explain(rt.alloc(), status, &traces, &mut conf, &mut errors);
-    ExitCode::from(status)
+    explain(rt.alloc(), ended.status, &traces, &mut conf, &mut errors);
+    ExitCode::from(ended.status)
 }
