@@ -1,1 +1,3 @@
 pub mod AlikeTranscripts
+pub mod CacheSteps
+pub mod QuietTurns
