@@ -195,7 +195,7 @@ module _ (p : Placement) (s : ℕ) (a : SessionView) where
         inr (
           subst (λ (h : List Event). HasServer p h c.request) same x.served,
           subst (Serves c z) (sym x.is)
-          (inr (subst (λ (h : List Event). 3 ≤ events_left h) same x.space, says.0, says.1, says.2, (is, x.least ∙ ap (λ (h : List Event). length (log h) + 1) same))),
+              (inr (subst (λ (h : List Event). 3 ≤ events_left h) same x.space, says.0, says.1, says.2, (is, x.least ∙ ap (λ (h : List Event). length (log h) + 1) same))),
         )
 
     no_backend_comes : NoBackendTurn p a c z → z.front ≡ a.front → ComesTo c z
@@ -224,8 +224,10 @@ module _ (p : Placement) (s : ℕ) (a : SessionView) where
     full_comes : FullTurn p a c z → z.front ≡ a.front → ComesTo c z
     full_comes x same =
         let now = one_moment a.front z.front x.m x.moment same in
-        inr (subst (λ (h : List Event). HasServer p h c.request) now.1 x.served,
-        full_serves (act_of c.request) (subst (λ (h : List Event). HasNoRoomFor h (act_of c.request)) now.1 x.full) (x.replied ∙ ap (λ (n : ℕ). Refused (record { code = HISTORY_FULL; a = n; b = 0 })) now.0) same x.least)
+        inr (
+          subst (λ (h : List Event). HasServer p h c.request) now.1 x.served,
+          full_serves (act_of c.request) (subst (λ (h : List Event). HasNoRoomFor h (act_of c.request)) now.1 x.full) (x.replied ∙ ap (λ (n : ℕ). Refused (record { code = HISTORY_FULL; a = n; b = 0 })) now.0) same x.least,
+        )
 
     case_comes : (case : TurnCase true p s a c z) → entry_count_of s z.front ≡ entry_count_of s a.front + entries_in case → ComesTo c z
     case_comes (scheduled x) count = scheduled_comes x (subst (GrowsFaultless c z) x.is grows)

@@ -1,1 +1,2 @@
 pub mod AlikeDesks
+pub mod QuietSolos

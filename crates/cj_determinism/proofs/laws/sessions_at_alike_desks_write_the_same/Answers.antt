@@ -2,8 +2,6 @@ use Rattle.std.proofs.Common.{Some, refl}
 use Rattle.cj_desk.specs.SessionTranscripts.{setting}
 use Rattle.cj_determinism.specs.AlikeDesks.{ShowsTheSame}
 use Rattle.cj_determinism.proofs.AlikeTranscripts.{alike_one}
-use Rattle.cj_determinism.proofs.CacheSteps.{follows_one}
-use Rattle.cj_determinism.proofs.QuietTurns.{turn_comes}
 use Rattle.cj_determinism.proofs.laws.sessions_at_alike_desks_write_the_same.Goals as goal
 
 pub returns : goal.returns
