@@ -1,15 +1,17 @@
 //! When a session leaves no choice of what it writes: laws over any desk, and over a `Solo`.
 //!
-//! Promised: sessions at desks of which a view shows the same write the same for the same bytes, if the view shows
-//! enough (`StayAlike`). For a `Solo` the view has what the desk shows and the result cache (`SoloView`). It shows
-//! enough where nothing fails (`PassesQuietly`), no memory is wanting and the backends tell what they hold.
-//! Then the bytes written are a function of the bytes taken, the view at the beginning, the clock's moment and the
-//! draws. Left out are sessions at whose end the history is full, since a query's refusal for that is no function of
-//! these: `cj_core` doesn't promise that only a failure leads to it.
-//! To read: `specs/AlikeDesks`, then `specs/QuietSolos`. Nothing builds on this crate.
-//! Proofs begin in `proofs/AlikeTranscripts`, `proofs/QuietTurns` with `QuietSteps`, and `proofs/QuietTranscripts`.
+//! Promised of desks of which a view shows enough (`StayAlike`): sessions that begin alike write the same for the same
+//! bytes. For a `Solo` the view has what its desk looks like and its result cache (`SoloView`). It shows enough where
+//! nothing fails (`PassesQuietly`), no memory is wanting and the backends tell what they hold.
+//! Promised of starts in which nothing failed (`StartsQuietly`): over the same log the first session begins alike.
+//! Left out: sessions at whose end the history is full, and logs that leave a transaction open.
+//! To read: `specs/AlikeDesks`, `specs/QuietSolos`, `specs/QuietStarts`. Nothing builds on this crate.
+//! Proofs begin in `proofs/AlikeTranscripts`; in `QuietTurns`, `QuietSteps` and `QuietTranscripts`; in `QuietStarts`.
 #![tactic(auto)]
 
 mod laws;
 
-pub use laws::{quiet_sessions_write_the_same, sessions_at_alike_desks_write_the_same};
+pub use laws::{
+    quiet_calls_keep_solos_alike, quiet_first_sessions_write_the_same,
+    quiet_sessions_write_the_same, quiet_starts_look_alike, sessions_at_alike_desks_write_the_same,
+};
