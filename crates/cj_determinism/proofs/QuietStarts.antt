@@ -43,7 +43,7 @@ enabled_in : (b : ℕ) (es : List ℕ) (on : Bool) → fold (enabled_after_event
 enabled_in b [] on = or_none on
 enabled_in b (c ∷ es) on = enabled_in b es _ ∙ or_both on _ (has b es)
 
-module _ (p : Placement) (items : List LogItem) (w : WorldState) (world : IsWorld true w) (q : StartsQuietly p items w) where
+module _ (tells : Bool) (p : Placement) (items : List LogItem) (w : WorldState) (world : IsWorld tells w) (q : StartsQuietly p items w) where
   started_history : w.core.history ≡ q.opening ++ map Enabled q.started.enabled
   started_history = subst (λ (txs : List ℕ). AbortsEach (q.opening ++ map Enabled q.started.enabled) txs w.core.history) q.none_open q.started.history
 
@@ -91,16 +91,16 @@ view_with p h sessions greatest setup cache =
 view_seen : (w : WorldState) → view_of (first_session w) ≡ view_with w.core.placement w.core.history w.core.sessions w.core.greatest w.setup w.cache
 view_seen w = refl
 
-pub starts_alike : (p : Placement) (items : List LogItem) (v w : WorldState) → IsWorld true v → IsWorld true w → StartsQuietly p items v → StartsQuietly p items w → v.setup ≡ w.setup → v.cache ≡ w.cache → ShowsTheSame view_of (first_session v) (first_session w)
-starts_alike p items v w x y a b setup cache =
+pub starts_alike : (tells : Bool) (p : Placement) (items : List LogItem) (v w : WorldState) → IsWorld tells v → IsWorld tells w → StartsQuietly p items v → StartsQuietly p items w → v.setup ≡ w.setup → v.cache ≡ w.cache → ShowsTheSame view_of (first_session v) (first_session w)
+starts_alike tells p items v w x y a b setup cache =
     let openings : a.opening ≡ b.opening = items_fix items a.opening b.opening a.opens b.opens in
     let alike : (k : ℕ) → has k a.started.enabled ≡ has k b.started.enabled = λ k.
-    sym (enabled_if p items v x a k)
-    ∙ (⊎_elim (λ (within : k < p.backends). all_on p items v x a k within ∙ sym (all_on p items w y b k within)) (λ (past : p.backends ≤ k). others_off p items v x a k past ∙ sym (others_off p items w y b k past)) (cases_lt k p.backends)
-    ∙ enabled_if p items w y b k) in
+    sym (enabled_if tells p items v x a k)
+    ∙ (⊎_elim (λ (within : k < p.backends). all_on tells p items v x a k within ∙ sym (all_on tells p items w y b k within)) (λ (past : p.backends ≤ k). others_off tells p items v x a k past ∙ sym (others_off tells p items w y b k past)) (cases_lt k p.backends)
+    ∙ enabled_if tells p items w y b k) in
     let enabled : a.started.enabled ≡ b.started.enabled = rising_one a.started.enabled b.started.enabled a.started.rises b.started.rises alike in
     let history : v.core.history ≡ w.core.history =
-    started_history p items v x a ∙ (ap (λ (h : List Event). h ++ map Enabled a.started.enabled) openings ∙ (ap (λ (es : List ℕ). b.opening ++ map Enabled es) enabled ∙ sym (started_history p items w y b))) in
+    started_history tells p items v x a ∙ (ap (λ (h : List Event). h ++ map Enabled a.started.enabled) openings ∙ (ap (λ (es : List ℕ). b.opening ++ map Enabled es) enabled ∙ sym (started_history tells p items w y b))) in
     let placement : v.core.placement ≡ w.core.placement = a.started.placement ∙ sym b.started.placement in
     let sessions : v.core.sessions ≡ w.core.sessions = a.started.sessions ∙ sym b.started.sessions in
     let greatest : v.core.greatest ≡ w.core.greatest = a.started.greatest ∙ (ap (λ (h : List Event). greatest_session (log h)) openings ∙ sym b.started.greatest) in

@@ -1,6 +1,6 @@
 //! Laws of the definitions, each the contract of a function that does nothing.
 
-ghost use Rattle.std.specs.Prelude.{◌≡◌, ℕ, ℤ, List, None, Some, true};
+ghost use Rattle.std.specs.Prelude.{◌≡◌, ℕ, ℤ, Bool, List, None, Some, true};
 ghost use Rattle.cj_model.specs.declared.message.Message.{Message};
 ghost use Rattle.cj_model.specs.Wire.Frames.{Frames};
 ghost use Rattle.cj_cluster.specs.declared.session.SessionEnd.{SessionEnd};
@@ -47,7 +47,7 @@ pub fn quiet_sessions_write_the_same<T>()
 /// Quiet starts over a log of the same items lead to worlds at which the first session begins
 /// alike, if the worlds' setups and result caches are the same. The log leaves no transaction open.
 pub fn quiet_starts_look_alike()
-    ensures { (p : Placement) (items : List LogItem) (v w : WorldState) → IsWorld true v → IsWorld true w → StartsQuietly p items v → StartsQuietly p items w → v.setup ≡ w.setup → v.cache ≡ w.cache → ShowsTheSame view_of (first_session v) (first_session w) }
+    ensures { (tells : Bool) (p : Placement) (items : List LogItem) (v w : WorldState) → IsWorld tells v → IsWorld tells w → StartsQuietly p items v → StartsQuietly p items w → v.setup ≡ w.setup → v.cache ≡ w.cache → ShowsTheSame view_of (first_session v) (first_session w) }
 {}
 
 /// What the first session at a world writes is a function of the log's items, the placement, the
