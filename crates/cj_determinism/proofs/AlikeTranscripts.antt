@@ -15,7 +15,7 @@ use Rattle.cj_desk.specs.SessionTranscripts.{SessionSetting, ClientState, login_
 use Rattle.cj_desk.specs.Determinism.{NoneWantsMemory}
 use Rattle.cj_desk.specs.AnsweredMessages.{is_whole_end}
 use Rattle.cj_desk.proofs.AnsweredLaws.{transcript_answers}
-use Rattle.cj_determinism.specs.AlikeDesks.{WantsNoMemory, StayAlike, AreClientsAlike}
+use Rattle.cj_determinism.specs.AlikeDesks.{StayAlike, AreClientsAlike}
 
 -- ---- what is sent
 

@@ -1,11 +1,9 @@
 -- Quiet calls of a Solo: from worlds of which the same is seen, the same comes of the same call.
-use Rattle.std.proofs.Common.{◌≡◌, ◌≢◌, ◌⊎◌, ◌+◌, ◌-◌, ◌^◌, ◌<◌, ◌≤◌, ℕ, zero, suc, true, false, cond, Bool, List, [], ◌∷◌, ◌++◌, length, All, get_or, map, slice_get, Option, Some, None, refl, sym, ap, subst, ◌∙◌, inl, inr, arith, length-append, ⊎_elim}
-use Rattle.cj_core.proofs.Common.{Act, AddsEntry, AddsOwnEvents, All-head, All-tail, append-nil, Call, CanCountMore, cases_eq, Ended, entry_of_call, Event, faults_after, faults_counted, faults_of, filter_map-append, get_or-set_same, get_seam, HasServer, HasNoServer, length-ends, length-map, log, log_failure_of, masks_of_end, masks_of_ends, ne_eqb, next, LogFailed, Reply, Sched, seen_at, SessionView, tells_log_failure, WorldState, WorldTurn, act_of, desk_of}
+use Rattle.std.proofs.Common.{◌≡◌, ◌≢◌, ◌⊎◌, ◌+◌, ◌-◌, ◌^◌, ◌<◌, ◌≤◌, ℕ, zero, suc, true, false, cond, Bool, List, [], ◌∷◌, ◌++◌, length, All, get_or, slice_get, Option, Some, None, refl, sym, ap, subst, ◌∙◌, inl, inr, arith, length-append, ⊎_elim}
+use Rattle.cj_core.proofs.Common.{Act, AddsEntry, AddsOwnEvents, All-head, All-tail, append-nil, Call, CanCountMore, cases_eq, Ended, entry_of_call, Event, faults_after, faults_counted, faults_of, filter_map-append, get_or-set_same, get_seam, HasServer, HasNoServer, length-map, log, log_failure_of, masks_of_end, masks_of_ends, ne_eqb, next, LogFailed, Reply, Sched, seen_at, SessionView, tells_log_failure, WorldState, WorldTurn, act_of, desk_of}
 use Rattle.cj_model.specs.declared.request.Request.{Request}
 use Rattle.cj_model.specs.declared.request.Request.TheVariants as request
 use Rattle.cj_model.specs.declared.answer.Answer.{Answer}
-use Rattle.cj_model.specs.declared.answer.Asked.{Asked}
-use Rattle.cj_model.specs.declared.answer.Refusal.{Refusal}
 use Rattle.cj_model.specs.declared.answer.Reply.TheVariants.{Done, Refused, Rows, Stats}
 use Rattle.cj_model.specs.declared.codes.TheConstants.{LOG_FAULT, NO_MEMORY}
 use Rattle.cj_model.specs.declared.select.Select.{Select}
@@ -15,13 +13,13 @@ use Rattle.cj_cluster.specs.Wire.Sessions.{refused_reply}
 use Rattle.cj_core.proofs.QuietCalls.{more_faults, quiet_store, quiet_turn}
 use Rattle.cj_core.proofs.SoloTurns.{log_ended, one_more_entry}
 use Rattle.cj_core.specs.QuietCalls.{BlamesNoStore}
-use Rattle.cj_core.specs.Solos.{AnswersFromCache, AnswersLookUp, DoesBesides, IsReadAtEnd, ReadsWithCache, SoloState, SoloSteps, UsesCache, with_answer}
+use Rattle.cj_core.specs.Solos.{AnswersLookUp, DoesBesides, IsReadAtEnd, ReadsWithCache, SoloState, UsesCache, with_answer}
 use Rattle.cj_state.specs.Worlds.{CacheFollowsLog}
 use Rattle.cj_cluster.specs.History.Freshness.{FollowsLog}
-use Rattle.cj_desk.specs.DeskStates.{DeskCall, DeskState, DeskSteps, DeskTurn, cache_counted, query_skipped, turn_taken}
+use Rattle.cj_desk.specs.DeskStates.{DeskCall, DeskState, DeskTurn, cache_counted, query_skipped, turn_taken}
 use Rattle.cj_desk.specs.Determinism.{AsksSameRequest, AsksTheSame}
 use Rattle.cj_determinism.specs.AlikeDesks.{ShowsTheSame, StayAlike, WantsNoMemory}
-use Rattle.cj_determinism.specs.QuietSolos.{PassesQuietly, QuietSteps, SoloView, fault_counts, view_of}
+use Rattle.cj_determinism.specs.QuietSolos.{PassesQuietly, QuietSteps, SoloView, view_of}
 use Rattle.cj_determinism.proofs.CacheSteps.{follows_one}
 use Rattle.cj_determinism.proofs.QuietTurns.{ComesTo, GrowsFaultless, comes_one, turn_comes}
 

@@ -1,8 +1,7 @@
 -- A session over which nothing failed is one of quiet calls.
-use Rattle.std.proofs.Common.{◌≡◌, ◌≢◌, ◌⊎◌, ◌-◌, ◌^◌, ◌<◌, ◌≤◌, ℕ, ℤ, zero, suc, true, false, Bool, List, [], ◌∷◌, length, All, get_or, slice_get, Option, Some, None, refl, sym, ap, subst, ◌∙◌, inl, inr, arith, ⊎_elim}
+use Rattle.std.proofs.Common.{◌≡◌, ◌⊎◌, ◌-◌, ◌^◌, ◌<◌, ◌≤◌, ℕ, ℤ, zero, suc, true, false, Bool, List, [], ◌∷◌, length, get_or, slice_get, Option, Some, None, refl, sym, ap, subst, inl, inr, arith, ⊎_elim}
 use Rattle.std.proofs.lemmas.Bool.{cases_lt}
-use Rattle.cj_core.proofs.Common.{Call, CanCountMore, desk_of, ends-prefix, Event, faults_of, get_left, get_or_default, get_or_past, IsPrefix, log_failed_in, log_faults_after, masks_of_ends, next, prefix_length, prefix_self, prefix_trans, Reply, WorldState, WorldTurn}
-use Rattle.cj_model.specs.declared.limits.TheConstants.{EVENT_LIMIT}
+use Rattle.cj_core.proofs.Common.{Call, desk_of, ends-prefix, faults_of, get_left, get_or_default, get_or_past, IsPrefix, log_failed_in, log_faults_after, masks_of_ends, prefix_length, prefix_self, prefix_trans, Reply, WorldState, WorldTurn}
 use Rattle.cj_model.specs.declared.message.Message.{Message}
 use Rattle.cj_model.specs.declared.message.Message.TheVariants as message
 use Rattle.cj_cluster.specs.declared.session.SessionEnd.{SessionEnd}
@@ -10,7 +9,7 @@ use Rattle.cj_core.proofs.QuietCalls.{more_faults}
 use Rattle.cj_core.specs.Solos.{SoloState, SoloSteps}
 use Rattle.cj_desk.specs.DeskStates.{DeskCall, cache_counted, query_skipped, turn_taken}
 use Rattle.cj_desk.specs.SessionTranscripts.{AnswersMessage, AnswersQuery, AnswersStats, ClientState, LeavesDesk, MessageExchange, MessageExchanges, SessionSetting, SessionTranscript, SkipsQuery, setting}
-use Rattle.cj_determinism.specs.QuietSolos.{PassesQuietly, NoneRises, QuietSteps, fault_counts}
+use Rattle.cj_determinism.specs.QuietSolos.{PassesQuietly, QuietSteps, fault_counts}
 
 -- ---- what grows along a session
 

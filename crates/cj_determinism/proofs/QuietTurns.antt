@@ -1,21 +1,19 @@
 -- What a turn comes to in which nothing failed and no memory was wanting: the history before it and what is asked fix
 -- its reply, and what the session sees then.
-use Rattle.std.proofs.Common.{◌≡◌, ◌≢◌, ◌⊎◌, ◌+◌, ◌-◌, ◌*◌, ◌<◌, ◌≤◌, ℕ, zero, suc, true, false, Bool, List, [], ◌∷◌, ◌++◌, length, take, slice_get, Option, Some, None, refl, sym, ap, subst, ◌∙◌, inl, inr, arith, append_assoc, length-append, ⊎_elim}
+use Rattle.std.proofs.Common.{◌≡◌, ◌≢◌, ◌⊎◌, ◌+◌, ◌-◌, ◌*◌, ◌<◌, ◌≤◌, ℕ, true, List, [], ◌∷◌, ◌++◌, length, take, slice_get, Option, Some, None, refl, sym, ap, subst, ◌∙◌, inl, inr, arith, append_assoc, length-append, ⊎_elim}
 use Rattle.std.proofs.lemmas.Bool.{both_ways, cases_eq, eqb-true}
-use Rattle.std.proofs.lemmas.List.{append-nil, append_cancel_left}
+use Rattle.std.proofs.lemmas.List.{append-nil}
 use Rattle.std.proofs.lemmas.Option.{slice_get_within}
 use Rattle.cj_model.specs.declared.request.Act.{Act}
 use Rattle.cj_model.specs.declared.request.Entry.{Entry}
 use Rattle.cj_model.specs.declared.request.Request.{Request}
 use Rattle.cj_model.specs.declared.request.Request.TheVariants as request
 use Rattle.cj_model.specs.declared.select.Select.{Select}
-use Rattle.cj_model.specs.declared.answer.Answer.{Answer}
 use Rattle.cj_model.specs.declared.answer.Asked.{Asked}
 use Rattle.cj_model.specs.declared.answer.Outcome.{Outcome}
 use Rattle.cj_model.specs.declared.answer.Refusal.{Refusal}
-use Rattle.cj_model.specs.declared.answer.Reply.{Reply}
 use Rattle.cj_model.specs.declared.answer.Reply.TheVariants.{Refused}
-use Rattle.cj_model.specs.declared.codes.TheConstants.{HISTORY_FULL, LOG_FAULT, NO_BACKEND, NO_MEMORY, READ_FAULT, STARVED_ALL, UNFINISHED}
+use Rattle.cj_model.specs.declared.codes.TheConstants.{HISTORY_FULL, LOG_FAULT, NO_BACKEND, NO_MEMORY, READ_FAULT, UNFINISHED}
 use Rattle.cj_model.specs.declared.limits.TheConstants.{EVENT_LIMIT}
 use Rattle.cj_model.specs.Database.Inserts.{refusal_of_code}
 use Rattle.cj_model.specs.Database.Outcomes.{IsAsked}
@@ -27,7 +25,7 @@ use Rattle.cj_model.specs.Cluster.Masks.{in_mask}
 use Rattle.cj_model.proofs.Masks.{has-zero}
 use Rattle.cj_cluster.specs.declared.event.Event.{Event}
 use Rattle.cj_cluster.specs.declared.event.Event.TheVariants.{Sched, Ended}
-use Rattle.cj_cluster.specs.History.Answering.{AnswersEntry, Finished, HasNoServer, HasServer, Unfinished}
+use Rattle.cj_cluster.specs.History.Answering.{AnswersEntry, HasNoServer, HasServer, Unfinished}
 use Rattle.cj_cluster.specs.History.Histories.{database_after, ended_count, events_left, is_free, log, masks_of_ends, outcome_of}
 use Rattle.cj_cluster.specs.History.Turns.{Call, FullTurn, HasNoRoomFor, IsMomentBetween, NoBackendTurn, ReadTurn, ScheduledTurn, SessionView, Turn, TurnCase, entries_in, entry_count_of, entry_of_call, full, log_fault, no_backend, read, read_fault, scheduled, starved}
 use Rattle.cj_cluster.proofs.Pushed.{get_seam, length-ends, take_whole}
