@@ -1,110 +1,21 @@
 -- At desks that stay alike, a message has one reply, unless memory is wanting.
-use Rattle.std.proofs.Common.{◌≡◌, ◌≢◌, ◌⊎◌, ◌+◌, ℕ, ℤ, true, List, [], ◌∷◌, ◌++◌, Option, Some, None, IfSome, refl, sym, ap, subst, ◌∙◌, inl, inr, arith, lit≤}
-use Rattle.std.proofs.lemmas.List.{append-nil, append_cancel_left}
-use Rattle.cj_session.proofs.Common.{Answer, DeskState, Done, flat_map, FrameFault, Message, NO_MEMORY, Refused, Reply, reply_bytes, Request, Rows, SessionEnd, Stats}
+use Rattle.std.proofs.Common.{◌≡◌, ◌≢◌, ◌+◌, ℕ, ℤ, true, List, [], ◌∷◌, ◌++◌, Option, Some, None, IfSome, refl, sym, ap, subst, ◌∙◌, inl, inr}
+use Rattle.std.proofs.lemmas.List.{append-nil}
+use Rattle.cj_session.proofs.Common.{DeskState, flat_map, Message, NO_MEMORY, Reply, Request, SessionEnd, Stats}
 use Rattle.cj_cluster.specs.declared.session.SessionEnd.TheVariants as end
-use Rattle.cj_model.specs.Wire.Frames.{frame, Frames, fault_of}
+use Rattle.cj_model.specs.Wire.Frames.{frame, Frames}
 use Rattle.cj_model.specs.declared.message.Message.TheVariants as message
-use Rattle.cj_model.specs.Sql.Grammar.{TextReadsAs}
 use Rattle.cj_model.specs.Sql.Macros.{bounds, generator_after_draws}
 use Rattle.cj_model.specs.Sql.PlainRequests.{act_of}
 use Rattle.cj_sql.proofs.OneReading.{text_one}
-use Rattle.cj_desk.specs.DeskStates.{DeskCall, turn_taken, query_skipped, cache_counted, desk_tx}
+use Rattle.cj_desk.specs.DeskStates.{DeskCall, query_skipped, cache_counted, desk_tx}
 use Rattle.cj_cluster.specs.Wire.Sessions.{refused_reply, answered_messages}
-use Rattle.cj_desk.specs.SessionTranscripts.{SessionSetting, ClientState, login_reply, user_after_login, refusal_by_transaction, request_at_desk, SkipsQuery, IsRefusedBefore, IsQueryTurn, AnswersStats, AnswersQuery, AnswersMessage, SendsRows, SendsReply, MessageExchange, MessageExchanges, IsFaultyRest, AwaitsMore, IsWrittenWhole, EndsTranscript, SessionTranscript, bad_frame_reply}
+use Rattle.cj_desk.specs.SessionTranscripts.{SessionSetting, ClientState, login_reply, user_after_login, refusal_by_transaction, request_at_desk, SkipsQuery, IsRefusedBefore, IsQueryTurn, AnswersStats, AnswersQuery, AnswersMessage, SendsReply, MessageExchange, MessageExchanges, EndsTranscript, SessionTranscript}
 use Rattle.cj_desk.specs.Determinism.{NoneWantsMemory}
 use Rattle.cj_desk.specs.AnsweredMessages.{is_whole_end}
 use Rattle.cj_desk.proofs.AnsweredLaws.{transcript_answers}
+use Rattle.cj_session.proofs.OneTranscript.{reply_of, rest_one, sent_one, starved_sent, stopped_one, stopped_or_turned, written_one}
 use Rattle.cj_determinism.specs.AlikeDesks.{StayAlike, AreClientsAlike}
-
--- ---- what is sent
-
-rows_one : (a : Answer) (r q : Reply) → r ≢ refused_reply NO_MEMORY → q ≢ refused_reply NO_MEMORY → SendsRows a r → SendsRows a q → r ≡ q
-rows_one a r q fed full (inl x) (inl y) = x.1 ∙ sym y.1
-rows_one a r q fed full (inl x) (inr (inl y)) = absurd (omega (arith, x.0, y.0))
-rows_one a r q fed full (inr (inl x)) (inl y) = absurd (omega (arith, x.0, y.0))
-rows_one a r q fed full (inr (inl x)) (inr (inl y)) = x.1 ∙ sym y.1
-rows_one a r q fed full (inr (inr x)) y = absurd (fed x)
-rows_one a r q fed full x (inr (inr y)) = absurd (full y)
-
-sent_one : (answer r q : Reply) → r ≢ refused_reply NO_MEMORY → q ≢ refused_reply NO_MEMORY → SendsReply answer r → SendsReply answer q → r ≡ q
-sent_one (Done count) r q fed full x y = x ∙ sym y
-sent_one (Rows a) r q fed full x y = rows_one a r q fed full x y
-sent_one (Stats hits misses) r q fed full x y = x ∙ sym y
-sent_one (Refused refusal) r q fed full x y = x ∙ sym y
-
--- want of memory is sent as it is
-starved_sent : (answer r : Reply) → answer ≡ refused_reply NO_MEMORY → SendsReply answer r → r ≡ refused_reply NO_MEMORY
-starved_sent answer r is sends = subst (λ (x : Reply). SendsReply x r → r ≡ refused_reply NO_MEMORY) (sym is) (λ (h : r ≡ refused_reply NO_MEMORY). h) sends
-
--- ---- why a Query is stopped
-
-stopped_one : (tx : ℕ) (text : List ℕ) (r q : Reply) → r ≢ refused_reply NO_MEMORY → q ≢ refused_reply NO_MEMORY → IsRefusedBefore tx text r → IsRefusedBefore tx text q → r ≡ q
-stopped_one tx text r q fed full (inl x) (inl y) = x.replied ∙ sym y.replied
-stopped_one tx text r q fed full (inl x) (inr (inl y)) = absurd (x.nothing y.request y.reads)
-stopped_one tx text r q fed full (inr (inl x)) (inl y) = absurd (y.nothing x.request x.reads)
-stopped_one tx text r q fed full (inr (inl x)) (inr (inl y)) =
-    let same : x.request ≡ y.request = text_one text x.request y.request x.reads y.reads in
-    let refusal : Some x.refusal ≡ Some y.refusal = sym x.forbids ∙ ap (λ (s : Request). refusal_by_transaction tx (act_of s)) same ∙ y.forbids in
-    let one : x.refusal ≡ y.refusal = cc in
-    x.replied ∙ ap Refused one ∙ sym y.replied
-stopped_one tx text r q fed full (inr (inr x)) y = absurd (fed x)
-stopped_one tx text r q fed full x (inr (inr y)) = absurd (full y)
-
--- what is stopped takes no turn
-stopped_or_turned : (tx : ℕ) (text : List ℕ) (r : Reply) (s : Request) → r ≢ refused_reply NO_MEMORY → IsRefusedBefore tx text r → TextReadsAs text s → refusal_by_transaction tx (act_of s) ≡ None → ⊥
-stopped_or_turned tx text r s fed (inl x) reads allowed = x.nothing s reads
-stopped_or_turned tx text r s fed (inr (inl x)) reads allowed =
-    let same : x.request ≡ s = text_one text x.request s x.reads reads in
-    let never : Some x.refusal ≡ None = sym x.forbids ∙ ap (λ (y : Request). refusal_by_transaction tx (act_of y)) same ∙ allowed in
-    cc
-stopped_or_turned tx text r s fed (inr (inr x)) reads allowed = fed x
-
--- ---- what is written
-
-rest_one : (front other rest last : List ℕ) → front ≡ other → front ++ rest ≡ other ++ last → rest ≡ last
-rest_one front other rest last same e = append_cancel_left front rest last (e ∙ ap (λ (x : List ℕ). x ++ last) (sym same))
-
-fine_nil : fault_of [] ≡ None
-unfolding fault_of
-fine_nil = refl
-
--- the rest is not faulty, and the replies were written; or it is, and its refusal was written behind them
-abbrev WritesSo : List ℕ → List Reply → List ℕ → Type 0
-WritesSo rest replies written = (((fault : FrameFault) → IsFaultyRest rest fault → ⊥) × IsWrittenWhole replies written) ⊎ ((fault : FrameFault) × IsFaultyRest rest fault × IsWrittenWhole (replies ++ bad_frame_reply fault ∷ []) written)
-
-waits_fine : (rest : List ℕ) → AwaitsMore rest → (fault : FrameFault) → IsFaultyRest rest fault → ⊥
-waits_fine rest waits fault faulty = let never : None ≡ Some fault = sym waits.fine ∙ faulty.fault_is in cc
-
-writes_so : (rest : List ℕ) (replies : List Reply) (written : List ℕ) (ending : SessionEnd) → is_whole_end ending ≡ true → EndsTranscript rest replies written ending → WritesSo rest replies written
-writes_so rest replies written end.Quit whole ends = inl (λ fault faulty. faulty.stops message.Quit ends.0.0 (record { texts = tt; size = lit≤ tt }) ends.0.1, ends.1)
-writes_so rest replies written end.Eof whole ends = inl (λ fault faulty. waits_fine rest (record { stops = faulty.stops; fine = ap fault_of ends.0 ∙ fine_nil }) fault faulty, ends.1)
-writes_so rest replies written end.Cut whole ends = inl (waits_fine rest ends.0, ends.2)
-writes_so rest replies written (end.BadFrame fault) whole ends = inr (fault, ends.0, ends.1)
-writes_so rest replies written end.ReadFault whole ends = inl (waits_fine rest ends.0, ends.1)
-writes_so rest replies written end.WriteFault whole ends = absurd cc
-writes_so rest replies written end.Spent whole ends = inl (waits_fine rest ends.0, ends.1)
-writes_so rest replies written end.NoMemory whole ends = absurd cc
-
-so_one : (rest : List ℕ) (replies : List Reply) (written other : List ℕ) → WritesSo rest replies written → WritesSo rest replies other → written ≡ other
-so_one rest replies written other (inl x) (inl y) = x.1 ∙ sym y.1
-so_one rest replies written other (inl x) (inr (fault, faulty, y)) = absurd (x.0 fault faulty)
-so_one rest replies written other (inr (fault, faulty, x)) (inl y) = absurd (y.0 fault faulty)
-so_one rest replies written other (inr (fault, faulty, x)) (inr (flaw, flawed, y)) =
-    let faults : Some fault ≡ Some flaw = sym faulty.fault_is ∙ flawed.fault_is in
-    let same : fault ≡ flaw = cc in
-    x ∙ ap (λ (k : FrameFault). flat_map reply_bytes (replies ++ bad_frame_reply k ∷ [])) same ∙ sym y
-
-written_one : (rest : List ℕ) (replies : List Reply) (written other : List ℕ) (ending last : SessionEnd) → is_whole_end ending ≡ true → is_whole_end last ≡ true → EndsTranscript rest replies written ending → EndsTranscript rest replies other last → written ≡ other
-written_one rest replies written other ending last whole full x y = so_one rest replies written other (writes_so rest replies written ending whole x) (writes_so rest replies other last full y)
-
--- ---- messages
-
--- the reply of what a desk was asked
-abbrev reply_of : DeskCall → Reply → Reply
-reply_of (turn_taken c) r = c.reply
-reply_of query_skipped r = r
-reply_of (cache_counted hits misses) r = Stats hits misses
 
 module _ {S D : Type 0} (w : SessionSetting S D) (AreAlike : S → S → Type 0) (alike : StayAlike AreAlike w.state_of w.leads_to) (shown : ℤ) (tells : w.moment ≡ Some shown) where
   -- the sessions are alike
