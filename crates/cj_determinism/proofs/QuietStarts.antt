@@ -1,6 +1,6 @@
 -- Quiet starts over the same log lead to the same history.
-use Rattle.std.proofs.Common.{◌≡◌, ◌+◌, ◌-◌, ◌^◌, ◌<◌, ◌≤◌, ◌||◌, ℕ, true, false, Bool, List, [], ◌∷◌, ◌++◌, length, map, get_or, slice_get, Some, refl, sym, ap, subst, ◌∙◌, arith, ⊎_elim}
-use Rattle.std.proofs.lemmas.Bool.{cases_lt, false_from_ne_true}
+use Rattle.std.proofs.Common.{◌≡◌, ◌+◌, ◌-◌, ◌^◌, ◌<◌, ◌≤◌, ◌||◌, ◌&&◌, ◌≢◌, not, ℕ, true, false, Bool, List, [], ◌∷◌, ◌++◌, length, take, map, get_or, append_assoc, length-append, slice_get, Some, refl, sym, ap, subst, ◌∙◌, arith, ⊎_elim}
+use Rattle.std.proofs.lemmas.Bool.{and_parts, both_ways, cases_eq, cases_lt, false_from_ne_true}
 use Rattle.std.proofs.lemmas.List.Sums.{fold-append}
 use Rattle.std.specs.List.{fold}
 use Rattle.std.specs.Option.{option_map}
@@ -10,7 +10,7 @@ use Rattle.cj_cluster.specs.Moves.Moves.{opened_for}
 use Rattle.cj_cluster.specs.Moves.Cores.{Core, session_at}
 use Rattle.cj_cluster.specs.Moves.Runs.{seen_at}
 use Rattle.cj_cluster.specs.declared.event.Event.{Event}
-use Rattle.cj_cluster.specs.declared.event.Event.TheVariants.{Enabled}
+use Rattle.cj_cluster.specs.declared.event.Event.TheVariants.{Enabled, Ended, Sched}
 use Rattle.cj_cluster.specs.History.Histories.{is_enabled, log}
 use Rattle.cj_model.specs.Cluster.Caching.{CacheState}
 use Rattle.cj_model.specs.Cluster.Placements.{Placement}
@@ -22,11 +22,17 @@ use Rattle.cj_state.specs.Faults.{faults_of}
 use Rattle.cj_state.specs.Worlds.{IsWorld, Setup, WorldState}
 use Rattle.cj_core.proofs.Common.{length-map, next, slice_get-get_or}
 use Rattle.cj_core.proofs.StartWhole.{none_on}
-use Rattle.cj_core.specs.Starts.{AbortsEach}
+use Rattle.cj_core.specs.Starts.{AbortsEach, orphans_of, with_abort}
+use Rattle.cj_state.specs.Beginnings.{opened_core}
+use Rattle.cj_model.specs.Cluster.Masks.{in_mask}
+use Rattle.cj_cluster.specs.History.Legality.{IsAllowedEvent, IsLegal}
+use Rattle.cj_core.proofs.QuietCalls.{some_backend}
+use Rattle.cj_core.proofs.Common.{enabled-push, IsPrefix, prefix_self, prefix_trans, take_whole}
+use Rattle.std.proofs.Math.Seq.{get_or-append_seam}
 use Rattle.cj_determinism.specs.AlikeDesks.{ShowsTheSame}
 use Rattle.cj_determinism.specs.QuietSolos.{SoloView, view_of}
 use Rattle.cj_determinism.specs.QuietStarts.{StartsQuietly, first_session}
-use Rattle.cj_determinism.proofs.RisingLists.{has, rising_one}
+use Rattle.cj_determinism.proofs.RisingLists.{all_has, has, rising_one}
 
 -- ---- which backends are enabled
 
@@ -43,15 +49,67 @@ enabled_in : (b : ℕ) (es : List ℕ) (on : Bool) → fold (enabled_after_event
 enabled_in b [] on = or_none on
 enabled_in b (c ∷ es) on = enabled_in b es _ ∙ or_both on _ (has b es)
 
-module _ (tells : Bool) (p : Placement) (items : List LogItem) (w : WorldState) (world : IsWorld tells w) (q : StartsQuietly p items w) where
-  started_history : w.core.history ≡ q.opening ++ map Enabled q.started.enabled
-  started_history = subst (λ (txs : List ℕ). AbortsEach (q.opening ++ map Enabled q.started.enabled) txs w.core.history) q.none_open q.started.history
+-- ---- the ends of open transactions, in which no backend failed
 
-  enabled_if : (b : ℕ) → is_enabled w.core.history b ≡ has b q.started.enabled
+-- a mask without backends is 0
+no_bits : (mask : ℕ) → ((b : ℕ) → in_mask mask b ≡ false) → mask ≡ 0
+no_bits mask none =
+    ⊎_elim (λ (e : mask ≡ 0). e) (λ (ne : mask ≢ 0). let there = some_backend mask mask (omega arith) ne in absurd (both_ways (in_mask mask there.0) (none there.0) there.1)) (cases_eq mask 0)
+
+-- the history after the administrator ended these transactions, and nothing failed
+abbrev aborted : List Event → List ℕ → List Event
+aborted h [] = h
+aborted h (tx ∷ txs) = aborted (with_abort h tx 0) txs
+
+abort_on : (h : List Event) (tx failed b : ℕ) → is_enabled (with_abort h tx failed) b ≡ (is_enabled h b && not (in_mask failed b || in_mask 0 b))
+abort_on h tx failed b = fold-append (enabled_after_event b) false h _
+
+-- whoever is enabled behind them was before
+aborts_off : (txs : List ℕ) (h z : List Event) (b : ℕ) → AbortsEach h txs z → is_enabled z b ≡ true → is_enabled h b ≡ true
+aborts_off [] h z b same on = ap (λ (l : List Event). is_enabled l b) (sym same) ∙ on
+aborts_off (tx ∷ txs) h z b (failed, rest) on = (and_parts (is_enabled h b) (not (in_mask failed b || in_mask 0 b)) (sym (abort_on h tx failed b) ∙ aborts_off txs (with_abort h tx failed) z b rest on)).0
+
+aborts_prefix : (txs : List ℕ) (h z : List Event) → AbortsEach h txs z → IsPrefix h z
+aborts_prefix [] h z same = subst (IsPrefix h) (sym same) (prefix_self h)
+aborts_prefix (tx ∷ txs) h z (failed, rest) = prefix_trans h (with_abort h tx failed) z (_, refl) (aborts_prefix txs (with_abort h tx failed) z rest)
+
+-- each event of a legal history was allowed
+legal_there : (z xs : List Event) (e : Event) (rest : List Event) → IsLegal z → xs ++ e ∷ rest ≡ z → IsAllowedEvent xs e
+legal_there z xs e rest legal is =
+    let long : length z ≡ length xs + length (e ∷ rest) = sym (ap length is) ∙ length-append xs (e ∷ rest) in
+    let more : length (e ∷ rest) ≡ length rest + 1 = omega arith in
+    let there : get_or z (length xs) e ≡ e = ap (λ (l : List Event). get_or l (length xs) e) (sym is) ∙ get_or-append_seam xs e rest e in
+    subst (λ (h : List Event). IsAllowedEvent h e) (take_whole xs z (e ∷ rest, is)) (subst (λ (x : Event). IsAllowedEvent (take (length xs) z) x) there (legal.each (length xs) e (omega (arith, long, more))))
+
+-- in an end after which those are enabled that were, none failed
+none_failed : (h z : List Event) (tx failed : ℕ) → IsLegal z → IsPrefix (with_abort h tx failed) z → ((b : ℕ) → is_enabled h b ≡ true → is_enabled (with_abort h tx failed) b ≡ true) → failed ≡ 0
+none_failed h z tx failed legal (rest, is) on =
+    no_bits failed
+    (λ b. false_from_ne_true (in_mask failed b)
+    (λ (there : in_mask failed b ≡ true).
+    let allowed = legal_there z (h ++ Sched _ ∷ []) (Ended failed 0) rest legal (append_assoc h (Sched _ ∷ []) (Ended failed 0 ∷ rest) ∙ (sym (append_assoc h (Sched _ ∷ Ended failed 0 ∷ []) rest) ∙ is)) in
+    let before : is_enabled h b ≡ true = sym (enabled-push h (Sched _) b) ∙ ((allowed.1 b).0 there).0 in
+    let kept = (and_parts (is_enabled h b) (not (in_mask failed b || in_mask 0 b)) (sym (abort_on h tx failed b) ∙ on b before)).1 in
+    both_ways (not (in_mask failed b || in_mask 0 b)) (ap (λ (t : Bool). not (t || in_mask 0 b)) there) kept))
+
+aborts_one : (txs : List ℕ) (h z : List Event) → IsLegal z → ((b : ℕ) → is_enabled h b ≡ true → is_enabled z b ≡ true) → AbortsEach h txs z → z ≡ aborted h txs
+aborts_one [] h z legal on same = same
+aborts_one (tx ∷ txs) h z legal on (failed, rest) =
+    let none : failed ≡ 0 = none_failed h z tx failed legal (aborts_prefix txs (with_abort h tx failed) z rest) (λ b there. aborts_off txs (with_abort h tx failed) z b rest (on b there)) in
+    aborts_one txs (with_abort h tx 0) z legal (λ b there. on b (and_parts (is_enabled h b) (not (in_mask 0 b || in_mask 0 b)) (sym (abort_on h tx 0 b) ∙ there)).0)
+    (subst (λ (m : ℕ). AbortsEach (with_abort h tx m) txs z) none rest)
+
+-- ---- a start
+
+module _ (tells : Bool) (p : Placement) (items : List LogItem) (w : WorldState) (world : IsWorld tells w) (q : StartsQuietly p items w) where
+  -- when the backends were enabled
+  abbrev front : List Event
+  front = q.opening ++ map Enabled q.started.enabled
+
+  enabled_if : (b : ℕ) → is_enabled front b ≡ has b q.started.enabled
   enabled_if b =
-      ap (λ (h : List Event). is_enabled h b) started_history
-      ∙ (fold-append (enabled_after_event b) false q.opening (map Enabled q.started.enabled)
-      ∙ (ap (λ (t : Bool). fold (enabled_after_event b) t (map Enabled q.started.enabled)) (none_on q.opening q.opens.opening b) ∙ enabled_in b q.started.enabled false))
+      fold-append (enabled_after_event b) false q.opening (map Enabled q.started.enabled)
+      ∙ (ap (λ (t : Bool). fold (enabled_after_event b) t (map Enabled q.started.enabled)) (none_on q.opening q.opens.opening b) ∙ enabled_in b q.started.enabled false)
 
   -- none of the backends failed
   all_on : (b : ℕ) → b < p.backends → is_enabled w.core.history b ≡ true
@@ -68,14 +126,18 @@ module _ (tells : Bool) (p : Placement) (items : List LogItem) (w : WorldState) 
       absurd (omega (arith, is, low)))
       (q.started.backends b lt)
 
-  others_off : (b : ℕ) → p.backends ≤ b → is_enabled w.core.history b ≡ false
-  others_off b past =
-      false_from_ne_true (is_enabled w.core.history b)
-      (λ (on : is_enabled w.core.history b ≡ true).
-      let within = world.sound.hosts b on in
-      let cells = world.sound.cells in
-      let backends : w.core.placement.backends ≡ p.backends = ap (λ (k : Placement). k.backends) q.started.placement in
-      absurd (omega (arith, within, cells, backends, past)))
+  started_history : w.core.history ≡ aborted front (orphans_of (opened_core p q.opening))
+  started_history =
+      aborts_one (orphans_of (opened_core p q.opening)) front w.core.history world.sound.legal
+      (λ b on. all_on b (all_has (λ (k : ℕ). k < p.backends) b q.started.enabled q.started.within (sym (enabled_if b) ∙ on))) q.started.history
+
+  -- each backend was enabled, and no other
+  all_enabled : (b : ℕ) → b < p.backends → has b q.started.enabled ≡ true
+  all_enabled b lt = sym (enabled_if b) ∙ aborts_off (orphans_of (opened_core p q.opening)) front w.core.history b q.started.history (all_on b lt)
+
+  no_other : (b : ℕ) → p.backends ≤ b → has b q.started.enabled ≡ false
+  no_other b past =
+      false_from_ne_true (has b q.started.enabled) (λ there. let within = all_has (λ (k : ℕ). k < p.backends) b q.started.enabled q.started.within there in absurd (omega (arith, within, past)))
 
 -- ---- what is seen of the first session
 
@@ -95,12 +157,12 @@ pub starts_alike : (tells : Bool) (p : Placement) (items : List LogItem) (v w : 
 starts_alike tells p items v w x y a b setup cache =
     let openings : a.opening ≡ b.opening = items_fix items a.opening b.opening a.opens b.opens in
     let alike : (k : ℕ) → has k a.started.enabled ≡ has k b.started.enabled = λ k.
-    sym (enabled_if tells p items v x a k)
-    ∙ (⊎_elim (λ (within : k < p.backends). all_on tells p items v x a k within ∙ sym (all_on tells p items w y b k within)) (λ (past : p.backends ≤ k). others_off tells p items v x a k past ∙ sym (others_off tells p items w y b k past)) (cases_lt k p.backends)
-    ∙ enabled_if tells p items w y b k) in
+    ⊎_elim (λ (within : k < p.backends). all_enabled tells p items v x a k within ∙ sym (all_enabled tells p items w y b k within)) (λ (past : p.backends ≤ k). no_other tells p items v x a k past ∙ sym (no_other tells p items w y b k past)) (cases_lt k p.backends) in
     let enabled : a.started.enabled ≡ b.started.enabled = rising_one a.started.enabled b.started.enabled a.started.rises b.started.rises alike in
     let history : v.core.history ≡ w.core.history =
-    started_history tells p items v x a ∙ (ap (λ (h : List Event). h ++ map Enabled a.started.enabled) openings ∙ (ap (λ (es : List ℕ). b.opening ++ map Enabled es) enabled ∙ sym (started_history tells p items w y b))) in
+    started_history tells p items v x a
+    ∙ (ap (λ (h : List Event). aborted (h ++ map Enabled a.started.enabled) (orphans_of (opened_core p h))) openings
+    ∙ (ap (λ (es : List ℕ). aborted (b.opening ++ map Enabled es) (orphans_of (opened_core p b.opening))) enabled ∙ sym (started_history tells p items w y b))) in
     let placement : v.core.placement ≡ w.core.placement = a.started.placement ∙ sym b.started.placement in
     let sessions : v.core.sessions ≡ w.core.sessions = a.started.sessions ∙ sym b.started.sessions in
     let greatest : v.core.greatest ≡ w.core.greatest = a.started.greatest ∙ (ap (λ (h : List Event). greatest_session (log h)) openings ∙ sym b.started.greatest) in

@@ -1,6 +1,7 @@
 -- A rising list is fixed by what it has.
-use Rattle.std.proofs.Common.{◌≡◌, ◌≢◌, ◌<◌, ◌≤◌, ◌==◌, ◌||◌, ℕ, zero, suc, true, false, Bool, List, [], ◌∷◌, length, get_or, refl, sym, ap, ◌∙◌, arith, ⊎_elim}
+use Rattle.std.proofs.Common.{◌≡◌, ◌≢◌, ◌<◌, ◌≤◌, ◌==◌, ◌||◌, ℕ, zero, suc, true, false, Bool, List, [], ◌∷◌, length, All, get_or, refl, sym, ap, subst, ◌∙◌, arith, ⊎_elim}
 use Rattle.std.specs.List.{AllPairs, list_any}
+use Rattle.std.proofs.lemmas.List.Elements.{All-head, All-tail}
 use Rattle.std.proofs.lemmas.Bool.{both_ways, cases_eq, cases_lt, eq-eqb, ne_eqb}
 
 -- whether a list has a number
@@ -9,6 +10,13 @@ has b xs = list_any (λ (c : ℕ). b == c) xs
 
 abbrev Rises : List ℕ → Type 0
 Rises xs = AllPairs (λ (a b : ℕ). a < b) xs
+
+-- what holds of each of a list holds of what it has
+pub all_has : (P : ℕ → Type 0) (b : ℕ) (xs : List ℕ) → All P xs → has b xs ≡ true → P b
+all_has P b [] all there = absurd (cc there)
+all_has P b (x ∷ xs) all there =
+    ⊎_elim (λ (e : b ≡ x). subst P (sym e) (All-head P x xs all))
+    (λ (ne : b ≢ x). all_has P b xs (All-tail P x xs all) (sym (ap (λ (t : Bool). t || has b xs) (ne_eqb b x ne)) ∙ there)) (cases_eq b x)
 
 -- a number below each of a list is not in it
 below_none : (b : ℕ) (xs : List ℕ) → ((j : ℕ) → j < length xs → b < get_or xs j 0) → has b xs ≡ false

@@ -5,16 +5,14 @@ use Rattle.cj_cluster.specs.declared.event.Event.{Event}
 use Rattle.cj_cluster.specs.Moves.Moves.{opened_for}
 use Rattle.cj_log.specs.declared.item.LogItem.{LogItem}
 use Rattle.cj_recovery.specs.Openings.{OpensTo}
-use Rattle.cj_state.specs.Beginnings.{opened_core}
 use Rattle.cj_state.specs.Effects.{with_core}
 use Rattle.cj_state.specs.Faults.{faults_of}
 use Rattle.cj_state.specs.Worlds.{WorldState}
 use Rattle.cj_core.specs.QuietCalls.{CanCountMore}
 use Rattle.cj_core.specs.Solos.{SoloState}
-use Rattle.cj_core.specs.Starts.{HasStarted, orphans_of}
+use Rattle.cj_core.specs.Starts.{HasStarted}
 
--- A start over a log with these items, in which no backend counted a fault, where each could. The log leaves no
--- transaction open.
+-- a start over a log with these items, in which no backend counted a fault, where each could
 pub record StartsQuietly (p : Placement) (items : List LogItem) (w : WorldState) : Type 0 where
   pub opening : List Event
   pub opens : OpensTo items opening
@@ -22,7 +20,6 @@ pub record StartsQuietly (p : Placement) (items : List LogItem) (w : WorldState)
   pub started : HasStarted p opening faults w
   pub can_count : CanCountMore faults
   pub none_counted : faults_of w.cells ≡ faults
-  pub none_open : orphans_of (opened_core p opening) ≡ []
 
 -- the session that is opened first at a world
 abbrev pub first_session : WorldState → SoloState
