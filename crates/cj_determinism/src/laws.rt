@@ -45,15 +45,14 @@ pub fn quiet_sessions_write_the_same<T>()
 {}
 
 /// Quiet starts over a log of the same items lead to worlds at which the first session begins
-/// alike, if the worlds' setups and result caches are the same. The log leaves no transaction open.
+/// alike, if the worlds' setups and result caches are the same.
 pub fn quiet_starts_look_alike()
     ensures { (tells : Bool) (p : Placement) (items : List LogItem) (v w : WorldState) → IsWorld tells v → IsWorld tells w → StartsQuietly p items v → StartsQuietly p items w → v.setup ≡ w.setup → v.cache ≡ w.cache → ShowsTheSame view_of (first_session v) (first_session w) }
 {}
 
 /// What the first session at a world writes is a function of the log's items, the placement, the
 /// setup, the result cache, the draws, the clock's moment and the bytes taken, if the start and the
-/// session are quiet and the log leaves no transaction open. Sessions in which memory ran out are
-/// left out.
+/// session are quiet. Sessions in which memory ran out are left out.
 pub fn quiet_first_sessions_write_the_same<T>()
     ensures { (p : Placement) (items : List LogItem) (v w : WorldState) → IsWorld true v → IsWorld true w → StartsQuietly p items v → StartsQuietly p items w → v.setup ≡ w.setup → v.cache ≡ w.cache →
         (drawn : T → ℕ → ℕ) (later : T → ℕ → T) (moment : ℤ) (draws : T) (taken written other : List ℕ) (ending last : SessionEnd) (desk final : SoloState) (one two : T) →
