@@ -60,7 +60,7 @@ asked_blames_nobody reply (asked.Refused r) possible is =
 -- ---- masks
 
 -- a mask that is not 0 has a backend
-some_backend : (most mask : ℕ) → mask ≤ most → mask ≢ 0 → (b : ℕ) × (in_mask mask b ≡ true)
+pub some_backend : (most mask : ℕ) → mask ≤ most → mask ≢ 0 → (b : ℕ) × (in_mask mask b ≡ true)
 some_backend zero mask le some = absurd (some (omega (arith, le)))
 some_backend (suc most) mask le some =
     ⊎_elim

@@ -1,5 +1,5 @@
 -- A start from its parts.
-use Rattle.std.proofs.Common.{◌≡◌, inl, inr, ℕ, ◌<◌, ◌==◌, Bool, false, List, [], ◌∷◌, ◌++◌, length, map, slice_get, Option, Some, is_some, refl, ap, sym, ◌∙◌, subst, ⊎_elim}
+use Rattle.std.proofs.Common.{◌≡◌, inl, inr, ℕ, ◌<◌, ◌==◌, Bool, false, List, [], ◌∷◌, ◌++◌, length, map, slice_get, Option, Some, is_some, All, refl, ap, sym, ◌∙◌, subst, ⊎_elim}
 use Rattle.cj_start.proofs.Common.{AbortsEach, AllStand, AreStanding, Core, Enabled, EnabledTo, Ended, EndedTo, Entry, entry_numbered, Event, faults_of, filter, HasFailedOut, HasReplayed, HasStarted, HasTaken, is_enabled}
 use Rattle.cj_start.proofs.Common.{filter_agree, is_orphan, is_orphan_of, IsOpening, IsWorld, last_number, log, Marker, OnlyReplays, opened_core, orphans_of, Placement, position_at, range_with_len, Sched, tx_of, WorldState}
 use Rattle.cj_start.proofs.StartEnables.{enabled_last, enabled_position}
@@ -87,6 +87,7 @@ module _ (old rep : WorldState) (only : OnlyReplays old rep) (all : (b : ℕ) �
               cells = cells_count tells new world ∙ ap (λ (p : Placement). p.backends) placement_new;
               enabled = to.enabled;
               rises = to.rises;
+              within = subst (λ (q : Placement). All (λ (b : ℕ). b < q.backends) to.enabled) (only_placement old rep only) to.below;
               history =
                   subst (λ (h : List Event). AbortsEach h (orphans_of (opened_core old.core.placement old.core.history)) new.core.history) history_en
                   (subst (λ (txs : List ℕ). AbortsEach en.core.history txs new.core.history) orphans_en ends.history);

@@ -46,6 +46,7 @@ pub record HasStarted (p : Placement) (opening : List Event) (faults : List ℕ)
   pub placement : w.core.placement ≡ p
   pub enabled : List ℕ
   pub rises : AllPairs (λ (a b : ℕ). a < b) enabled
+  pub within : All (λ (b : ℕ). b < p.backends) enabled
   pub history : AbortsEach (opening ++ map Enabled enabled) (orphans_of (opened_core p opening)) w.core.history
   pub idle : is_free w.core.history ≡ true
   pub sessions : w.core.sessions ≡ []

@@ -9,7 +9,7 @@ use Rattle.cj_cluster.specs.History.Histories.{log}
 use Rattle.cj_cluster.proofs.Growth.{runs_grow}
 use Rattle.cj_cluster.proofs.Pushed.{prefix_self, prefix_trans}
 use Rattle.cj_core.specs.Solos.{desk_of}
-use Rattle.cj_core.specs.Starts.{AbortsEach, with_abort}
+use Rattle.cj_start.specs.Started.{AbortsEach, with_abort}
 use Rattle.cj_desk.proofs.ChainEntries.{stands_over}
 use Rattle.cj_log.specs.Logs.{KeepsItems}
 use Rattle.cj_log.proofs.OneLog.{one_log}
