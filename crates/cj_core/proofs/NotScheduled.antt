@@ -1,5 +1,5 @@
 -- What a session is told whose entry was not scheduled, and what that leaves.
-use Rattle.std.proofs.Common.{◌≡◌, ◌==◌, ℕ, List, inl, inr, Err, IsErrOf, Result, refl, ap}
+use Rattle.std.proofs.Common.{◌≡◌, ◌==◌, ℕ, List, inl, inr, Err, IsErrOf, Result, refl, ap, subst}
 use Rattle.std.specs.Prelude.{unwrap_or}
 use Rattle.cj_model.specs.declared.codes.TheConstants.{HISTORY_FULL, NO_MEMORY}
 use Rattle.cj_book.specs.declared.error.BookError.TheVariants.{InProgress, NoBackend, HistoryFull, LogFault, NoMemory}
@@ -13,12 +13,15 @@ abbrev told : BookError → Refusal
 told error = unwrap_or (refusal_of error) (refusal_of_code NO_MEMORY)
 
 -- it says why
-pub told_why : (c : Core) (e : Entry) (error : BookError) → SchedulesAs c e (Err error) → SchedulesOrRefuses c e (Err (told error))
-told_why c e (InProgress n) busy = inr (inr (inl refl))
-told_why c e NoBackend none = inl (none, refl)
-told_why c e (HistoryFull n) full = inr (inl (full.1, full.2, ap (λ m. record { code = HISTORY_FULL; a = m; b = 0 }) full.0))
-told_why c e LogFault failed = inr (inr (inr (failed.0, failed.1, refl)))
-told_why c e NoMemory wanting = inr (inr (inl refl))
+why : (c : Core) (e : Entry) (error : BookError) → SchedulesAs c e (Err error) → SchedulesOrRefuses c e (Err (told error))
+why c e (InProgress n) busy = inr (inr (inl refl))
+why c e NoBackend none = inl (none, refl)
+why c e (HistoryFull n) full = inr (inl (full.1, full.2, ap (λ m. record { code = HISTORY_FULL; a = m; b = 0 }) full.0))
+why c e LogFault failed = inr (inr (inr (failed.0, failed.1, refl)))
+why c e NoMemory wanting = inr (inr (inl refl))
+
+pub told_why : (c : Core) (own e : Entry) → e ≡ own → (error : BookError) → SchedulesAs c e (Err error) → SchedulesOrRefuses c own (Err (told error))
+told_why c own e is error refused = subst (λ (d : Entry). SchedulesOrRefuses c d (Err (told error))) is (why c e error refused)
 
 module _ (old new : WorldState) (s : ℕ) (e : Entry) (same : IsSameWorldButLog (with_cache (with_core old new.core) new.cache) new) (follows : CacheFollowsLog old new) where
   -- the world is as before, but maybe for its log
