@@ -67,7 +67,7 @@ pub struct Book {
     pub(crate) transactions: OpenTransactions,
     /// The markers of the history.
     pub(crate) markers: Vec<LogMarker>,
-    /// The entry or marker whose item is on its way into the log.
+    /// What is on its way into the log, an entry or a marker. Its writer has what is prepared for it.
     pub(crate) pending: Option<Pending>,
     pub(crate) seat: BookSeat,
 }
@@ -77,7 +77,7 @@ impl Model for Book {
     ghost use Rattle.cj_board.specs.Seats.{book_board, book_view};
     ghost use Rattle.cj_book.specs.Kept.{IsKeptBook};
     ghost use Rattle.cj_book.specs.Lists.{session_number};
-    ghost use Rattle.cj_book.specs.Pendings.{pending_event, KeepsPending};
+    ghost use Rattle.cj_book.specs.Pendings.{KeepsPending};
     ghost use Rattle.cj_book.specs.Seated.{SeatedBook};
 
     ghost Value = { SeatedBook };
@@ -91,11 +91,11 @@ impl Model for Book {
       state = record { layout = book.placement; history = (book_view book.seat).front; sessions = map session_number book.sessions; greatest = book.greatest; balance = book.balancer; cache = book.cache };
       board = book_board book.seat;
       view = book_view book.seat;
-      pending = pending_event book.pending;
+      pending = book.pending;
     } };
 
     ghost invariant = { λ book. IsKeptBook book.placement (book_view book.seat).front book.entries.items book.done book.enabled book.greatest book.targets book.sessions book.transactions.list book.markers.items (book_view book.seat).given
-        × KeepsPending book.placement (book_view book.seat).front (map session_number book.sessions) book.greatest (vec_capacity book.entries - length book.entries.items) (vec_capacity book.markers - length book.markers.items) book.transactions.places book.pending };
+        × KeepsPending (book_view book.seat).front (vec_capacity book.entries - length book.entries.items) (vec_capacity book.markers - length book.markers.items) book.transactions.places book.pending };
 }
 
 /// Returns the book's error for a refusal of the log's records.

@@ -32,3 +32,4 @@ pub use book::{Book, BookParts};
 pub use book_log::BookLog;
 pub use counter::Counter;
 pub use error::{BookError, OwnError, SessionsFull, StartError};
+pub use pending::{BegunEntry, Pending, Prepared};

@@ -1,6 +1,6 @@
-use Rattle.std.proofs.Common.{◌≡◌, ◌≢◌, ◌≤◌, true, None, map, subst}
+use Rattle.std.proofs.Common.{◌≡◌, ◌≢◌, ◌≤◌, true, None, subst}
 use Rattle.cj_book.proofs.Common.{is_free}
-use Rattle.cj_book.proofs.Cited.{Entry, IsOfGiven, IsOfKnown, SeatedBook, given_known, given_session, history, pending_idle, session_number}
+use Rattle.cj_book.proofs.Cited.{Entry, IsOfGiven, IsOfKnown, SeatedBook, given_known, given_session, history, pending_idle}
 use Rattle.cj_book.proofs.book.Book.legal.Goals as goal
 
 pub returns-clause-given : goal.returns-clause-given
@@ -31,4 +31,4 @@ pub returns-clause-pending : goal.returns-clause-pending
 returns-clause-pending c =
     let b = c.self.inside in
     subst (λ (v : SeatedBook). v.pending ≢ None → is_free v.state.history ≡ true) c.self.view_is
-    (pending_idle b.placement (history b.seat) (map session_number b.sessions) b.greatest _ _ _ b.pending c.self.invariant.1)
+    (pending_idle (history b.seat) _ _ _ b.pending c.self.invariant.1)
