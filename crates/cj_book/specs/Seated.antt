@@ -12,7 +12,8 @@ use Rattle.cj_book.specs.declared.error.BookError.TheVariants.{InProgress, NoBac
 use Rattle.cj_book.specs.declared.pending.Pending.{Pending}
 use Rattle.cj_book.specs.Books.{BookState, IsOpenSession}
 
--- A book: what follows from its history, of which board its seat is, and what the seat knows, which has the history in front. Beside it, whether an entry or a marker is on its way into the recovery log, where one is.
+-- A book: what follows from its history, of which board its seat is, and what the seat knows, which has the history in
+-- front. Beside it, whether an entry or a marker is on its way into the recovery log, where one is.
 pub record SeatedBook : Type 0 where
   pub state : BookState
   pub board : TableId

@@ -1,9 +1,9 @@
 //! The type `Book`: its fields, its view and invariant for contracts, and how it is opened.
 
-ghost use Rattle.std.specs.Prelude.{◌≡◌, ◌≢◌, ◌+◌, ◌-◌, ◌*◌, ◌≤◌, None, true, [], length, IfOk};
+ghost use Rattle.std.specs.Prelude.{◌≡◌, ◌≢◌, ◌+◌, ◌-◌, ◌*◌, ◌≤◌, None, Some, true, [], length, IfOk};
 ghost use Rattle.cj_model.specs.declared.limits.TheConstants.{EVENT_LIMIT, SESSION_NUMBER_LIMIT};
 ghost use Rattle.cj_model.specs.declared.request.Entry.{Entry};
-ghost use Rattle.cj_cluster.specs.History.Histories.{ended_count, is_free, log};
+ghost use Rattle.cj_cluster.specs.History.Histories.{ended_count, events_left, is_free, log};
 ghost use Rattle.cj_cluster.specs.History.Legality.{IsLegal};
 ghost use Rattle.cj_outside.specs.Stores.{Only};
 ghost use Rattle.cj_board.specs.Seats.{board_id, book_board, book_view};
@@ -11,6 +11,7 @@ ghost use Rattle.cj_book.specs.BookLogs.{opened_state, LogFollows};
 ghost use Rattle.cj_book.specs.Books.{IsOfGiven, IsOfKnown};
 ghost use Rattle.cj_book.specs.Found.{start_error_of, entry_error_of};
 ghost use Rattle.cj_book.specs.Seated.{GivesOwnPassesOnly, OwnersAreOpen};
+ghost use Rattle.cj_book.specs.declared.pending.Pending.TheVariants as pending;
 ghost use Rattle.cj_book.specs.Starts.{CountsStartFault, IsStarted, Starts};
 
 use crate::book_log::BookLog;
@@ -182,7 +183,7 @@ impl Book {
 
     /// Shows what holds of all books: the history is one that can be, the seat has seen it, and the numbers of open
     /// sessions were given. At most one entry is open, and its end has room in the history. A session that has an own
-    /// pass is open. While an entry or a marker is pending, no entry is open.
+    /// pass is open. While an entry or a marker is pending, no entry is open, and an entry has room until it ends.
     pub fn legal(&self)
         ensures legal { IsLegal self.now.state.history }
         ensures front { self.now.view.front ≡ self.now.state.history }
@@ -193,6 +194,7 @@ impl Book {
         ensures within { self.now.state.greatest ≤ SESSION_NUMBER_LIMIT }
         ensures owned { OwnersAreOpen self.now }
         ensures pending { self.now.pending ≢ None → is_free self.now.state.history ≡ true }
+        ensures space { self.now.pending ≡ Some pending.Entry → 3 ≤ events_left self.now.state.history }
     {
         let _ = &self.seat;
     }

@@ -68,8 +68,8 @@ impl<R: Files<File = File>> FileStore<R> {
         }
     }
 
-    /// Returns the kind of the last error: that of the last call that failed, or the one that each call meets since the
-    /// file can't be opened. `None` if there was none.
+    /// Returns the kind of the last error: that of the last call that failed, or the one that each call meets since
+    /// the file can't be opened. `None` if there was none.
     pub fn cause(&self) -> Option<ErrorKind> {
         match (self.cause, &self.standing) {
             (None, Standing::Refused(error)) => Some(error.kind()),

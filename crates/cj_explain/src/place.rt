@@ -31,8 +31,8 @@ fn is_refused_so(alloc: Global, document: &str, error: &ConfError) -> bool {
     }
 }
 
-/// Returns the front of a document in which one row of this list stands, up to that row. Nothing that is looked at before
-/// the list is refused in it. Level and backends are those of the table, if the list comes after them.
+/// Returns the front of a document in which one row of this list stands, up to that row. Nothing that is looked at
+/// before the list is refused in it. Level and backends are those of the table, if the list comes after them.
 fn front_of(alloc: Global, table: &Table, list: Key) -> Option<String> {
     let level = table.get(Key::Level.name())?;
     let backends = table.get(Key::Backends.name())?;
@@ -142,8 +142,9 @@ fn as_line(text: String) -> Option<Vec<u8>>
     Some(line)
 }
 
-/// Reads the configuration once more, and returns a line that says where it is refused: in which row of a list, counted
-/// from 1, and with which value. Returns `None` if there is nothing to say, the store failed or memory ran out.
+/// Reads the configuration once more, and returns a line that says where it is refused: in which row of a list,
+/// counted from 1, and with which value. Returns `None` if there is nothing to say, the store failed or memory ran
+/// out.
 pub fn place_line<F: Store>(alloc: Global, conf: &mut F) -> Option<Vec<u8>>
     ensures line { IfSome result (λ line. (front : List ℕ) × (line.items ≡ front ++ 10 ∷ [])) }
     ensures conf { F.tells ≡ true → F.held conf.new ≡ F.held conf.old }

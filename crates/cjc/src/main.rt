@@ -1,9 +1,9 @@
 //! The program: hands files, the standard streams and the clock to `run` of `cj_top`, for the command that its words
 //! say, and to `explain` of `cj_explain`, which tells why it ended with an error.
 //!
-//! Promised: all that `run` and `explain` promise, for what `cj_edge` tells of these objects. This file has no contract
-//! of its own; `checks/` tries the built program.
-//! To change: which store a command gets as its log is `log_store`. Everything else of a command is in `cj_top`.
+//! Promised: all that `run` and `explain` promise, for what `cj_edge` tells of these objects. This file has no
+//! contract of its own; `checks/` tries the built program. To change: which store a command gets as its log is
+//! `log_store`. Everything else of a command is in `cj_top`.
 #![tactic(auto)]
 
 use cj_edge::{
