@@ -179,9 +179,9 @@ pub no_code : (n : ℕ) → (n < NO_TABLE) ⊎ (WRONG_TYPE < n) → IsQueryCode 
 no_code n out q = grind arith
 
 -- a backend's answer doesn't say that the history has no room
-answer_has_room : (answer : Asked) → IsAsked answer → tells_full (asked_reply answer) ≡ false
-answer_has_room (asked.Rows a) possible = refl
-answer_has_room (asked.Refused r) possible = ne_eqb r.code HISTORY_FULL (λ e. no_code HISTORY_FULL (inr (omega arith)) (subst IsQueryCode e possible))
+answer_has_room : (reply : Reply) (answer : Asked) → IsAsked answer → reply ≡ asked_reply answer → tells_full reply ≡ false
+answer_has_room reply (asked.Rows a) possible is = ap tells_full is
+answer_has_room reply (asked.Refused r) possible is = ap tells_full is ∙ ne_eqb r.code HISTORY_FULL (λ e. no_code HISTORY_FULL (inr (omega arith)) (subst IsQueryCode e possible))
 
 module _ (tells : Bool) (s tx : ℕ) (user : List ℕ) (select : Select) (old now : WorldState) (serving left : ℕ) (w : CoreInvariant old.core) (in_own : (tx ≡ 0) ⊎ (tx ≡ open_tx old.core s)) (serves : IsServingMask old.core select serving)
     (balance : Balance) (so_far : QuerySoFar s user old serving left balance now) where
@@ -354,6 +354,7 @@ module _ (tells : Bool) (s tx : ℕ) (user : List ℕ) (select : Select) (old no
           picks = picked_of so_far.failed new.balance (subst (PicksInTurn old.balance (in_mask serving) so_far.failed) (sym same) so_far.picks);
           answered = None;
           came = inl refl;
+          full = λ _. refl;
           asks = left_asks;
           logins = left_logins;
           replied = λ answer possible is. inr (replied answer possible is);
@@ -369,6 +370,7 @@ module _ (tells : Bool) (s tx : ℕ) (user : List ℕ) (select : Select) (old no
               (subst (PicksInTurn old.balance (in_mask serving) (so_far.failed ++ b ∷ [])) (sym same) (picks_one_more old.balance balance (in_mask serving) so_far.failed left b so_far.picks so_far.rest first));
           answered = None;
           came = inr (refl, want);
+          full = λ is. absurd (both_ways (tells_full reply) (ap tells_full want) is);
           asks = left_asks;
           logins = left_logins;
           replied = λ answer possible is. absurd (none answer possible is);
@@ -393,8 +395,8 @@ module _ (tells : Bool) (s tx : ℕ) (user : List ℕ) (select : Select) (old no
     one_others k other none = same_login new.cells old.cells k (one.others k other ∙ so_far.uncalled k none)
 
     -- it answered
-    pub asks_one : (reply : Reply) → answered ≡ true → AsksBackends (call reply) so_far.failed old new
-    asks_one reply did =
+    pub asks_one : (reply : Reply) → tells_full reply ≡ false → answered ≡ true → AsksBackends (call reply) so_far.failed old new
+    asks_one reply room did =
         let under = one.under did in
         let lt : b < length (logins_of now.cells) =
         (let e = length-map now.cells (λ (x : CellState). x.login) in let same = same_backends old now so_far.failed so_far.faults in omega (arith, e, same, place))
@@ -404,6 +406,7 @@ module _ (tells : Bool) (s tx : ℕ) (user : List ℕ) (select : Select) (old no
           picks = one_picks;
           answered = Some b;
           came = inl refl;
+          full = λ is. absurd (both_ways (tells_full reply) room is);
           asks = subst (λ (t : Bool). asks_of new.cells ≡ asks_with (asks_of now.cells) (cond t (Some b) None)) did one.asks ∙ ap (λ (n : List ℕ). asks_with n (Some b)) so_far.asks;
           logins =
               record {
@@ -427,6 +430,7 @@ module _ (tells : Bool) (s tx : ℕ) (user : List ℕ) (select : Select) (old no
           picks = one_picks;
           answered = None;
           came = inl refl;
+          full = λ _. refl;
           asks = subst (λ (t : Bool). asks_of new.cells ≡ asks_with (asks_of now.cells) (cond t (Some b) None)) did one.asks ∙ so_far.asks;
           logins =
               record {
@@ -458,7 +462,7 @@ module _ (tells : Bool) (s tx : ℕ) (user : List ℕ) (select : Select) (old no
     answered_turn b there answered calls disabled =
         read_is_turn new (λ x. answered_at (last_number now.core) (was_answered x)) (λ x. refl) answered.after (last_number now.core) refl (rw stands.no_read refl) refl stands reply so_far.failed so_far.backends
         (answers b reply new there answered) setup recovery_log calls disabled 
-        (noted (ap (λ (c : Core). c.history) answered.after) (ap tells_full answered.replied ∙ answer_has_room answered.answer answered.possible)) (answered.faults ∙ so_far.faults)
+        (noted (ap (λ (c : Core). c.history) answered.after) (answer_has_room reply answered.answer answered.possible answered.replied)) (answered.faults ∙ so_far.faults)
 
     module _ (b : ℕ) (place : b < length old.cells) (first : PicksFirst balance left b) (picked : now.balance ≡ read_over balance b) where
       there : in_mask serving b ≡ true
@@ -479,14 +483,15 @@ module _ (tells : Bool) (s tx : ℕ) (user : List ℕ) (select : Select) (old no
       -- memory is wanting, for the query or to keep its answer
       starved_turn : QueryStarved s now reply new → CallsOne user b true now new ⊎ CallsNobody now new → WorldTurn tells s old (call reply) new
       starved_turn starved (inl one) =
-          refused_turn starved.after starved.faults (starves reply starved.replied) (asks_one new b place true one first picked reply refl) (one_disabled new b place true one first picked)
+          refused_turn starved.after starved.faults (starves reply starved.replied) (asks_one new b place true one first picked reply (starves reply starved.replied).2 refl) (one_disabled new b place true one first picked)
       starved_turn starved (inr nobody) =
           let refuses = starves reply starved.replied in
           refused_turn starved.after starved.faults refuses (asks_in_want new nobody.cells reply b first (nobody.balance ∙ picked) starved.replied refuses.1) (left_disabled new nobody.cells)
 
       -- whatever an attempt came to
       pub attempted_turn : AttemptsQuery tells s b user tx select now (Some reply) new → WorldTurn tells s old (call reply) new
-      attempted_turn (inl (answered, one)) = answered_turn b there answered (asks_one new b place true one first picked reply refl) (one_disabled new b place true one first picked)
+      attempted_turn (inl (answered, one)) =
+          answered_turn b there answered (asks_one new b place true one first picked reply (answer_has_room reply answered.answer answered.possible answered.replied) refl) (one_disabled new b place true one first picked)
       attempted_turn (inr (inl (full, one))) = unnoted_turn full one
       attempted_turn (inr (inr (starved, called))) = starved_turn starved called
 
