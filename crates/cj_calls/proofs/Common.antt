@@ -26,7 +26,7 @@ pub use Rattle.cj_cluster.specs.declared.moves.Moved.TheVariants.{Applied, Repli
 pub use Rattle.cj_cluster.specs.declared.moves.OpenSession.{OpenSession}
 pub use Rattle.cj_calls.specs.Proving.SoloParts.{AttemptsQuery, CallsNobody, CallsOne, EntryEnded, EntryRefused, EntryScheduled, EntryTaken, HasTakenEntry, IsBeforeEnd, IsLeft, QueryAnswered, QueryFailed, QueryStarved, QueryUnnoted, RepliesKept, TakesOpen, SchedulesOrRefuses, cache_answered, open_user}
 pub use Rattle.cj_calls.specs.WorldTurns.{call_of, CallsBackends, StandsBetweenCalls, WorldTurn}
-pub use Rattle.cj_calls.specs.OwnEvents.{AddsEntry, AddsOwnEvents, log_failed_in, log_failure_of, tells_log_failure}
+pub use Rattle.cj_calls.specs.OwnEvents.{AddsEntry, AddsOwnEvents, log_failed_in, log_failure_of, tells_full, tells_log_failure}
 pub use Rattle.cj_calls.specs.CacheUse.{AnswersFromCache, AnswersLookUp, with_answer}
 pub use Rattle.cj_calls.specs.CalledBackends.{AreBackendsOf, AreCalledFor, CallsExactly, faults_counted, mask_with}
 pub use Rattle.cj_calls.specs.Queries.{AsksBackends, IsReadAtEnd, PicksInTurn, RepeatsAnswer, serves_request}

@@ -58,6 +58,7 @@ asks_still select old c failed new is q =
       picks = q.picks;
       answered = q.answered;
       came = q.came;
+      full = q.full;
       asks = q.asks;
       logins = q.logins;
       replied = λ answer possible same. ⊎_elim (λ some. inl some) (λ kept. inr (kept_still select old c kept is)) (q.replied answer possible same);

@@ -3,7 +3,7 @@ use Rattle.std.proofs.Common.{Option, Ok, Err, ◌≡◌, ◌≢◌, ◌⊎◌, 
 use Rattle.cj_calls.proofs.Common.{accounts_of, AddsOwnEvents, All-nil, and_parts, answered_at, append-nil, AreBackendsOf, AreCalledFor, ask, Asked, asked_reply, Asks, at_log_end, AttemptsQuery, both_ways, Call, call_of, CanServe, cases_eq, Core, CoreInvariant}
 use Rattle.cj_calls.proofs.Common.{database_after, database_of, entries-same, Entry, Event, events_left, faults_after, faults_counted, faults_of, fold-append, follows_own, has-zero, HasFailedSince, HISTORY_FULL, hosts_all, in_mask, is_enabled, is_free, is_open, is_open-with, IsQueryCode}
 use Rattle.cj_calls.proofs.Common.{IsReadAtEnd, IsServingMask, IsWorld, last_number, log, log_faults-same, log_faults_of, logins_of, LogView, map-append, ne_eqb, needs, NO_BACKEND, NO_MEMORY, NO_TABLE, open_tx, OpenSession, position_at, prefix_length, prefix_self, QueryAnswered}
-use Rattle.cj_calls.proofs.Common.{QueryFailed, QueryUnnoted, READ_FAULT, ReadFailed, Refusal, refusal_of_code, Refused, Reply, Rests, seen_at, Select, session_at, session_owes, SessionView, Setup, StandsBetweenCalls, take_whole, Turn, turn_full, turn_in_vain, turn_read}
+use Rattle.cj_calls.proofs.Common.{QueryFailed, QueryUnnoted, READ_FAULT, ReadFailed, Refusal, refusal_of_code, Refused, Reply, Rests, seen_at, Select, session_at, session_owes, SessionView, Setup, StandsBetweenCalls, take_whole, tells_full, Turn, turn_full, turn_in_vain, turn_read}
 use Rattle.cj_calls.proofs.Common.{All-contains, asked_core, asks_of, asks_with, AsksBackends, Balance, CallsExactly, CallsNobody, CallsOne, CellState, Contains, find_session, happened, IsAsked, length-map, login_of, PicksFirst, PicksInTurn, QueryStarved, read_number, read_over, RepeatsAnswer, serves_request, session_of-other, with_balance}
 use Rattle.cj_calls.proofs.Common.{All-push, false_from_ne_true, turn_starved, turn_unserved, tx_of, was_answered, with_core, with_one_request, with_read, with_request_counted, with_session, WorldState, WorldTurn, WRONG_TYPE}
 use Rattle.cj_model.specs.declared.request.Request.TheVariants as request
@@ -165,6 +165,10 @@ IsNoAnswer reply = (answer : Asked) → IsAsked answer → reply ≡ asked_reply
 abbrev pub RefusesTo : Bool → ℕ → Core → Call → SessionView → Type 0
 RefusesTo tells s c call z = Turn tells c.placement s (seen_at c s) call z × IsNoAnswer call.reply
 
+-- one that doesn't say that the history has no room
+abbrev pub RefusesWithRoom : Bool → ℕ → Core → Call → SessionView → Type 0
+RefusesWithRoom tells s c call z = Turn tells c.placement s (seen_at c s) call z × IsNoAnswer call.reply × (tells_full call.reply ≡ false)
+
 -- a refusal that is no backend's is no answer
 no_answer : (reply : Reply) (r : Refusal) → reply ≡ Refused r → (IsQueryCode r.code → ⊥) → IsNoAnswer reply
 no_answer reply r is never (asked.Rows a) possible same = cc (is, same)
@@ -173,6 +177,11 @@ no_answer reply r is never (asked.Refused q) possible same = let e : q ≡ r = c
 -- nor has it a code of a query's refusals
 pub no_code : (n : ℕ) → (n < NO_TABLE) ⊎ (WRONG_TYPE < n) → IsQueryCode n → ⊥
 no_code n out q = grind arith
+
+-- a backend's answer doesn't say that the history has no room
+answer_has_room : (reply : Reply) (answer : Asked) → IsAsked answer → reply ≡ asked_reply answer → tells_full reply ≡ false
+answer_has_room reply (asked.Rows a) possible is = ap tells_full is
+answer_has_room reply (asked.Refused r) possible is = ap tells_full is ∙ ne_eqb r.code HISTORY_FULL (λ e. no_code HISTORY_FULL (inr (omega arith)) (subst IsQueryCode e possible))
 
 module _ (tells : Bool) (s tx : ℕ) (user : List ℕ) (select : Select) (old now : WorldState) (serving left : ℕ) (w : CoreInvariant old.core) (in_own : (tx ≡ 0) ⊎ (tx ≡ open_tx old.core s)) (serves : IsServingMask old.core select serving)
     (balance : Balance) (so_far : QuerySoFar s user old serving left balance now) where
@@ -206,11 +215,11 @@ module _ (tells : Bool) (s tx : ℕ) (user : List ℕ) (select : Select) (old no
   serves_still k on = (ap (λ h. is_enabled h k) grown ∙ (enabled_failures s ((session_at old.core s).requests + 1) old.core.history so_far.failed k ∙ on.0), on.1)
 
   -- memory is wanting
-  pub starves : (reply : Reply) → reply ≡ Refused (refusal_of_code NO_MEMORY) → RefusesTo tells s old.core (call reply) (record { front = now.core.history; least = (session_at old.core s).least })
-  starves reply is = (turn_starved tells old.core.placement s (seen_at old.core s) now.core.history so_far.sound.legal (map (ReadFailed s ((session_at old.core s).requests + 1)) so_far.failed, sym grown) (session_owes old.core s w) rested (call reply) in_own is, no_answer reply (refusal_of_code NO_MEMORY) is (no_code NO_MEMORY (inr (omega arith))))
+  pub starves : (reply : Reply) → reply ≡ Refused (refusal_of_code NO_MEMORY) → RefusesWithRoom tells s old.core (call reply) (record { front = now.core.history; least = (session_at old.core s).least })
+  starves reply is = (turn_starved tells old.core.placement s (seen_at old.core s) now.core.history so_far.sound.legal (map (ReadFailed s ((session_at old.core s).requests + 1)) so_far.failed, sym grown) (session_owes old.core s w) rested (call reply) in_own is, no_answer reply (refusal_of_code NO_MEMORY) is (no_code NO_MEMORY (inr (omega arith))), ap tells_full is)
 
   -- no backend serves it
-  pub unserved : (reply : Reply) → serving ≡ 0 → reply ≡ Refused (refusal_of_code NO_BACKEND) → RefusesTo tells s old.core (call reply) (record { front = now.core.history; least = (session_at old.core s).least })
+  pub unserved : (reply : Reply) → serving ≡ 0 → reply ≡ Refused (refusal_of_code NO_BACKEND) → RefusesWithRoom tells s old.core (call reply) (record { front = now.core.history; least = (session_at old.core s).least })
   unserved reply none is =
       let serves_none : (b : ℕ) → CanServe old.core.placement old.core.history (request.Select select) b → ⊥ =
       λ b can. both_ways (in_mask serving b) (ap (λ (m : ℕ). in_mask m b) none ∙ has-zero b) ((serves b).0 can)
@@ -218,16 +227,18 @@ module _ (tells : Bool) (s tx : ℕ) (user : List ℕ) (select : Select) (old no
         turn_unserved tells old.core.placement s (seen_at old.core s) now.core.history so_far.sound.legal (map (ReadFailed s ((session_at old.core s).requests + 1)) so_far.failed, sym grown) (session_owes old.core s w) rested (call reply) in_own is
             (refl, λ b on. false_from_ne_true (hosts_all old.core.placement b (needs (request.Select select))) (λ hosts. serves_none b (still_serves b (on, hosts)))),
         no_answer reply (refusal_of_code NO_BACKEND) is (no_code NO_BACKEND (inl (omega arith))),
+        ap tells_full is,
       )
 
   -- each backend that serves it failed
   pub in_vain : (reply : Reply) → left ≡ 0 → serving ≢ 0 → reply ≡ Refused (record { code = READ_FAULT; a = serving; b = 0 })
-      → RefusesTo tells s old.core (call reply) (record { front = now.core.history; least = (session_at old.core s).least })
+      → RefusesWithRoom tells s old.core (call reply) (record { front = now.core.history; least = (session_at old.core s).least })
   in_vain reply none some is = (
     turn_in_vain tells old.core.placement s (seen_at old.core s) now.core.history so_far.sound.legal (map (ReadFailed s ((session_at old.core s).requests + 1)) so_far.failed, sym grown) (session_owes old.core s w) rested (call reply) select serving in_own
         refl is some (λ k. ((λ on. (serves k).0 (still_serves k on)), λ t. serves_still k ((serves k).1 t)))
         (λ k t. ⊎_elim (λ (on : in_mask left k ≡ true). absurd (both_ways (in_mask left k) (ap (λ (m : ℕ). in_mask m k) none ∙ has-zero k) on)) (λ (failed : HasFailedSince old.core.history now.core.history s ((session_at old.core s).requests + 1) k). failed) (so_far.tried k t)),
     no_answer reply (record { code = READ_FAULT; a = serving; b = 0 }) is (no_code READ_FAULT (inr (omega arith))),
+    ap tells_full is,
   )
 
   -- a backend that serves it answered, at the log's end
@@ -343,6 +354,7 @@ module _ (tells : Bool) (s tx : ℕ) (user : List ℕ) (select : Select) (old no
           picks = picked_of so_far.failed new.balance (subst (PicksInTurn old.balance (in_mask serving) so_far.failed) (sym same) so_far.picks);
           answered = None;
           came = inl refl;
+          full = λ _. refl;
           asks = left_asks;
           logins = left_logins;
           replied = λ answer possible is. inr (replied answer possible is);
@@ -358,6 +370,7 @@ module _ (tells : Bool) (s tx : ℕ) (user : List ℕ) (select : Select) (old no
               (subst (PicksInTurn old.balance (in_mask serving) (so_far.failed ++ b ∷ [])) (sym same) (picks_one_more old.balance balance (in_mask serving) so_far.failed left b so_far.picks so_far.rest first));
           answered = None;
           came = inr (refl, want);
+          full = λ is. absurd (both_ways (tells_full reply) (ap tells_full want) is);
           asks = left_asks;
           logins = left_logins;
           replied = λ answer possible is. absurd (none answer possible is);
@@ -382,8 +395,8 @@ module _ (tells : Bool) (s tx : ℕ) (user : List ℕ) (select : Select) (old no
     one_others k other none = same_login new.cells old.cells k (one.others k other ∙ so_far.uncalled k none)
 
     -- it answered
-    pub asks_one : (reply : Reply) → answered ≡ true → AsksBackends (call reply) so_far.failed old new
-    asks_one reply did =
+    pub asks_one : (reply : Reply) → tells_full reply ≡ false → answered ≡ true → AsksBackends (call reply) so_far.failed old new
+    asks_one reply room did =
         let under = one.under did in
         let lt : b < length (logins_of now.cells) =
         (let e = length-map now.cells (λ (x : CellState). x.login) in let same = same_backends old now so_far.failed so_far.faults in omega (arith, e, same, place))
@@ -393,6 +406,7 @@ module _ (tells : Bool) (s tx : ℕ) (user : List ℕ) (select : Select) (old no
           picks = one_picks;
           answered = Some b;
           came = inl refl;
+          full = λ is. absurd (both_ways (tells_full reply) room is);
           asks = subst (λ (t : Bool). asks_of new.cells ≡ asks_with (asks_of now.cells) (cond t (Some b) None)) did one.asks ∙ ap (λ (n : List ℕ). asks_with n (Some b)) so_far.asks;
           logins =
               record {
@@ -416,6 +430,7 @@ module _ (tells : Bool) (s tx : ℕ) (user : List ℕ) (select : Select) (old no
           picks = one_picks;
           answered = None;
           came = inl refl;
+          full = λ _. refl;
           asks = subst (λ (t : Bool). asks_of new.cells ≡ asks_with (asks_of now.cells) (cond t (Some b) None)) did one.asks ∙ so_far.asks;
           logins =
               record {
@@ -430,23 +445,24 @@ module _ (tells : Bool) (s tx : ℕ) (user : List ℕ) (select : Select) (old no
 
   module _ (stands : StandsBetweenCalls now.core s) (new : WorldState) (setup : new.setup ≡ now.setup) (recovery_log : new.recovery_log ≡ now.recovery_log) (reply : Reply) where
     -- the failures so far are what the history grew by
-    noted : new.core.history ≡ now.core.history → AddsOwnEvents s (call reply) None so_far.failed old.core.history new.core.history
-    noted same = inl (same ∙ grown)
+    noted : new.core.history ≡ now.core.history → tells_full reply ≡ false → AddsOwnEvents s (call reply) None so_far.failed old.core.history new.core.history
+    noted same room = inl (record { grew = same ∙ grown; replied = room })
 
     -- it is refused
     pub refused_turn : new.core ≡ with_request_counted now.core s → faults_of new.cells ≡ faults_of now.cells
-        → RefusesTo tells s old.core (call reply) (record { front = now.core.history; least = (session_at old.core s).least }) → AsksBackends (call reply) so_far.failed old new
+        → RefusesWithRoom tells s old.core (call reply) (record { front = now.core.history; least = (session_at old.core s).least }) → AsksBackends (call reply) so_far.failed old new
         → ((k : ℕ) → is_enabled old.core.history k ≡ false → slice_get new.cells k ≡ slice_get old.cells k) → WorldTurn tells s old (call reply) new
     refused_turn after counts reads calls disabled =
         read_is_turn new with_one_request (λ x. refl) after (session_at old.core s).least (ap (λ (c : Core). (session_at c s).least) so_far.core) refl stands.no_read stands reply so_far.failed so_far.backends
-        (reads.0, λ none answer possible is. absurd (reads.1 answer possible is)) setup recovery_log calls disabled (noted (ap (λ (c : Core). c.history) after)) (counts ∙ so_far.faults)
+        (reads.0, λ none answer possible is. absurd (reads.1 answer possible is)) setup recovery_log calls disabled (noted (ap (λ (c : Core). c.history) after) reads.2) (counts ∙ so_far.faults)
 
     -- a backend answers it, or its answer was kept
     pub answered_turn : (b : ℕ) → in_mask serving b ≡ true → QueryAnswered tells s tx select now reply new → AsksBackends (call reply) so_far.failed old new
         → ((k : ℕ) → is_enabled old.core.history k ≡ false → slice_get new.cells k ≡ slice_get old.cells k) → WorldTurn tells s old (call reply) new
     answered_turn b there answered calls disabled =
         read_is_turn new (λ x. answered_at (last_number now.core) (was_answered x)) (λ x. refl) answered.after (last_number now.core) refl (rw stands.no_read refl) refl stands reply so_far.failed so_far.backends
-        (answers b reply new there answered) setup recovery_log calls disabled (noted (ap (λ (c : Core). c.history) answered.after)) (answered.faults ∙ so_far.faults)
+        (answers b reply new there answered) setup recovery_log calls disabled 
+        (noted (ap (λ (c : Core). c.history) answered.after) (answer_has_room reply answered.answer answered.possible answered.replied)) (answered.faults ∙ so_far.faults)
 
     module _ (b : ℕ) (place : b < length old.cells) (first : PicksFirst balance left b) (picked : now.balance ≡ read_over balance b) where
       there : in_mask serving b ≡ true
@@ -460,27 +476,28 @@ module _ (tells : Bool) (s tx : ℕ) (user : List ℕ) (select : Select) (old no
           read_is_turn new with_one_request (λ x. refl) full.after (session_at old.core s).least (ap (λ (c : Core). (session_at c s).least) so_far.core) refl stands.no_read stands reply (so_far.failed ++ b ∷ [])
           (All-push (λ (k : ℕ). k < length old.cells) so_far.failed b so_far.backends place) (refuses.0, λ none answer possible is. absurd (refuses.1 answer possible is)) setup recovery_log
           (asks_failing new b place false one first picked reply refl refuses.1) (one_disabled new b place false one first picked)
-          (inr (record { noted = so_far.failed; last = b; is = refl; grew = same ∙ grown; full = ap events_left same ∙ full.full }))
+          (inr (record { noted = so_far.failed; last = b; is = refl; grew = same ∙ grown; full = ap events_left same ∙ full.full; replied = ap tells_full full.replied }))
           (full.faults
           ∙ (ap (λ (counts : List ℕ). faults_after counts (Some b)) so_far.faults ∙ sym (fold-append (λ (counts : List ℕ) (k : ℕ). faults_after counts (Some k)) (faults_of old.cells) so_far.failed (b ∷ []))))
 
       -- memory is wanting, for the query or to keep its answer
       starved_turn : QueryStarved s now reply new → CallsOne user b true now new ⊎ CallsNobody now new → WorldTurn tells s old (call reply) new
       starved_turn starved (inl one) =
-          refused_turn starved.after starved.faults (starves reply starved.replied) (asks_one new b place true one first picked reply refl) (one_disabled new b place true one first picked)
+          refused_turn starved.after starved.faults (starves reply starved.replied) (asks_one new b place true one first picked reply (starves reply starved.replied).2 refl) (one_disabled new b place true one first picked)
       starved_turn starved (inr nobody) =
           let refuses = starves reply starved.replied in
           refused_turn starved.after starved.faults refuses (asks_in_want new nobody.cells reply b first (nobody.balance ∙ picked) starved.replied refuses.1) (left_disabled new nobody.cells)
 
       -- whatever an attempt came to
       pub attempted_turn : AttemptsQuery tells s b user tx select now (Some reply) new → WorldTurn tells s old (call reply) new
-      attempted_turn (inl (answered, one)) = answered_turn b there answered (asks_one new b place true one first picked reply refl) (one_disabled new b place true one first picked)
+      attempted_turn (inl (answered, one)) =
+          answered_turn b there answered (asks_one new b place true one first picked reply (answer_has_room reply answered.answer answered.possible answered.replied) refl) (one_disabled new b place true one first picked)
       attempted_turn (inr (inl (full, one))) = unnoted_turn full one
       attempted_turn (inr (inr (starved, called))) = starved_turn starved called
 
   -- the session's request was counted, and else nothing was changed
   pub counted_turn : StandsBetweenCalls now.core s → now.balance ≡ balance → (new : WorldState) (reply : Reply) → new ≡ with_core now (with_request_counted now.core s)
-      → RefusesTo tells s old.core (call reply) (record { front = now.core.history; least = (session_at old.core s).least }) → WorldTurn tells s old (call reply) new
+      → RefusesWithRoom tells s old.core (call reply) (record { front = now.core.history; least = (session_at old.core s).least }) → WorldTurn tells s old (call reply) new
   counted_turn stands same new reply after reads =
       let cells = ap (λ (w : WorldState). w.cells) after in
       refused_turn stands new (ap (λ (w : WorldState). w.setup) after) (ap (λ (w : WorldState). w.recovery_log) after) reply (ap (λ (w : WorldState). w.core) after) (ap (λ (w : WorldState). faults_of w.cells) after) reads

@@ -1,11 +1,11 @@
 -- By which events the history grows in a call.
-use Rattle.std.specs.Prelude.{◌≡◌, ◌⊎◌, ℕ, zero, suc, ◌==◌, ◌&&◌, Bool, false, is_some, if◌then◌else◌, List, [], ◌∷◌, ◌++◌, length, map}
+use Rattle.std.specs.Prelude.{◌≡◌, ◌⊎◌, ℕ, zero, suc, ◌==◌, ◌&&◌, Bool, true, false, is_some, if◌then◌else◌, List, [], ◌∷◌, ◌++◌, length, map}
 use Rattle.std.specs.declared.option.Option.{Option}
 use Rattle.std.specs.declared.option.Option.TheVariants.{None, Some}
 use Rattle.cj_model.specs.declared.request.Act.{Act}
 use Rattle.cj_model.specs.declared.answer.Reply.{Reply}
 use Rattle.cj_model.specs.declared.answer.Reply.TheVariants.{Done, Rows, Refused, Stats}
-use Rattle.cj_model.specs.declared.codes.TheConstants.{LOG_FAULT}
+use Rattle.cj_model.specs.declared.codes.TheConstants.{HISTORY_FULL, LOG_FAULT}
 use Rattle.cj_model.specs.Sql.PlainRequests.{act_of}
 use Rattle.cj_cluster.specs.declared.event.Event.{Event}
 use Rattle.cj_cluster.specs.declared.event.Event.TheVariants.{Sched, Ended, ReadFailed, LogFailed}
@@ -35,16 +35,29 @@ AddsEntry zero s c act failed h g = (g ≡ h ++ log_failure_of s c) × (failed �
 AddsEntry (suc n) s c act failed h g =
     (n ≡ length (log h)) × ((starved : ℕ) × (g ≡ h ++ Sched (entry_of_call s c act) ∷ Ended (mask_with 0 failed) starved ∷ []))
 
--- the last failure of a read was not noted, since the history had no room
-pub record LacksLast (s q : ℕ) (failed : List ℕ) (h g : List Event) : Type 0 where
+-- the reply says that the history has no room
+abbrev pub tells_full : Reply → Bool
+tells_full (Refused refusal) = refusal.code == HISTORY_FULL
+tells_full (Done count) = false
+tells_full (Rows answer) = false
+tells_full (Stats hits misses) = false
+
+-- each failure of a read was noted, and the read was not refused for want of room
+pub record NotesEach (s : ℕ) (c : Call) (failed : List ℕ) (h g : List Event) : Type 0 where
+  pub grew : g ≡ h ++ map (ReadFailed s c.number) failed
+  pub replied : tells_full c.reply ≡ false
+
+-- the last failure of a read was not noted, since the history had no room, and the read was refused so
+pub record LacksLast (s : ℕ) (c : Call) (failed : List ℕ) (h g : List Event) : Type 0 where
   pub noted : List ℕ
   pub last : ℕ
   pub is : failed ≡ noted ++ last ∷ []
-  pub grew : g ≡ h ++ map (ReadFailed s q) noted
+  pub grew : g ≡ h ++ map (ReadFailed s c.number) noted
   pub full : events_left g ≡ 0
+  pub replied : tells_full c.reply ≡ true
 
 -- the history grew by the failures of a read, or by another request's entry or the failure of the log's store, and by
 -- nothing else
 abbrev pub AddsOwnEvents : ℕ → Call → Option Act → List ℕ → List Event → List Event → Type 0
-AddsOwnEvents s c None failed h g = (g ≡ h ++ map (ReadFailed s c.number) failed) ⊎ LacksLast s c.number failed h g
+AddsOwnEvents s c None failed h g = NotesEach s c failed h g ⊎ LacksLast s c failed h g
 AddsOwnEvents s c (Some act) failed h g = (number : ℕ) × AddsEntry number s c act failed h g

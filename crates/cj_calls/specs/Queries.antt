@@ -1,5 +1,5 @@
 -- A query at the backends.
-use Rattle.std.specs.Prelude.{◌≡◌, ◌≢◌, ◌⊎◌, ℕ, ◌==◌, ◌&&◌, not, Bool, List, [], ◌∷◌, ◌++◌, length, Contains}
+use Rattle.std.specs.Prelude.{◌≡◌, ◌≢◌, ◌⊎◌, ℕ, ◌==◌, ◌&&◌, not, Bool, List, [], ◌∷◌, ◌++◌, length, true, Contains}
 use Rattle.std.specs.declared.option.Option.{Option}
 use Rattle.std.specs.declared.option.Option.TheVariants.{None, Some}
 use Rattle.cj_model.specs.declared.answer.Answer.{Answer}
@@ -24,6 +24,7 @@ use Rattle.cj_state.specs.Asking.{asks_of, asks_with, read_over, PicksFirst}
 use Rattle.cj_state.specs.CalledLogins.{logins_of}
 use Rattle.cj_state.specs.Worlds.{WorldState, accounts_of}
 use Rattle.cj_calls.specs.CalledBackends.{CallsExactly}
+use Rattle.cj_calls.specs.OwnEvents.{tells_full}
 
 -- whether backend b serves the request
 abbrev pub serves_request : Core → Request → ℕ → Bool
@@ -56,6 +57,8 @@ pub record AsksBackends (c : Call) (failed : List ℕ) (old new : WorldState) : 
   pub picks : PicksInTurn old.balance (serves_request old.core c.request) (asked_in failed last) new.balance
   pub answered : Option ℕ
   pub came : (answered ≡ last) ⊎ ((answered ≡ None) × (c.reply ≡ Refused (refusal_of_code NO_MEMORY)))
+  -- none is asked behind a failure for which the history has no room
+  pub full : tells_full c.reply ≡ true → last ≡ None
   pub asks : asks_of new.cells ≡ asks_with (asks_of old.cells) answered
   pub logins : CallsExactly (accounts_of old) c.user (λ b. answered ≡ Some b) (Contains failed) (logins_of old.cells) (logins_of new.cells)
   -- what a backend may answer one did answer, or it was kept

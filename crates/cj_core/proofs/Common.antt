@@ -26,7 +26,7 @@ pub use Rattle.cj_core.specs.Played.{HasRun, HasRunInPart, HaveCauses, MovesWorl
 pub use Rattle.cj_calls.specs.WorldTurns.{StandsBetweenCalls, WorldTurn}
 pub use Rattle.cj_start.specs.Started.{CountsFaultOfPart, HasStarted}
 pub use Rattle.cj_core.specs.QuietCalls.{BlamesNoStore, BlamesNobody, CanCountMore}
-pub use Rattle.cj_calls.specs.OwnEvents.{AddsEntry, AddsOwnEvents, log_failed_in, log_failure_of, tells_log_failure}
+pub use Rattle.cj_calls.specs.OwnEvents.{AddsEntry, AddsOwnEvents, LacksLast, log_failed_in, log_failure_of, tells_full, tells_log_failure}
 pub use Rattle.cj_calls.specs.CalledBackends.{faults_counted, mask_with}
 pub use Rattle.cj_core.specs.Solos.{IsMoveOfNoSession, SoloState, SoloSteps, desk_of}
 pub use Rattle.cj_core.specs.Starts.{AreCurrent, AreHolding, BackendState, CountsFaultOfStart, HaveBegunNone, KeepEachBegun, LosesNothing, RefusesBytes, StartsFrom, started_backend, state_by}

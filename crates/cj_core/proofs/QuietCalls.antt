@@ -112,7 +112,7 @@ no_failed_mask (suc n) s c act h g m failed wanting adds low high idle masks =
 
 -- a read left the history as it was
 read_adds_nothing : (s : ℕ) (c : Call) (h g : List Event) → AddsOwnEvents s c None [] h g → length g ≡ length h
-read_adds_nothing s c h g (inl e) = ap length (e ∙ append-nil h)
+read_adds_nothing s c h g (inl notes) = ap length (notes.grew ∙ append-nil h)
 read_adds_nothing s c h g (inr lacks) =
     let none : 0 ≡ length (lacks.noted ++ lacks.last ∷ []) = ap length lacks.is in
     let some : length (lacks.noted ++ lacks.last ∷ []) ≡ length lacks.noted + 1 = length-append lacks.noted (lacks.last ∷ []) in

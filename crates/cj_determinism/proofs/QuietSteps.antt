@@ -1,6 +1,6 @@
 -- Quiet calls of a Solo: from worlds of which the same is seen, the same comes of the same call.
 use Rattle.std.proofs.Common.{◌≡◌, ◌≢◌, ◌⊎◌, ◌+◌, ◌-◌, ◌^◌, ◌<◌, ◌≤◌, ℕ, zero, suc, true, false, cond, Bool, List, [], ◌∷◌, ◌++◌, length, All, get_or, slice_get, Option, Some, None, refl, sym, ap, subst, ◌∙◌, inl, inr, arith, length-append, ⊎_elim}
-use Rattle.cj_core.proofs.Common.{Act, AddsEntry, AddsOwnEvents, All-head, All-tail, append-nil, Call, CanCountMore, cases_eq, Ended, entry_of_call, Event, faults_after, faults_counted, faults_of, filter_map-append, get_or-set_same, length-map, log, log_failure_of, masks_of_end, masks_of_ends, ne_eqb, next, LogFailed, Reply, Sched, seen_at, SessionView, tells_log_failure, WorldState, WorldTurn, act_of, desk_of}
+use Rattle.cj_core.proofs.Common.{Act, AddsEntry, AddsOwnEvents, All-head, All-tail, append-nil, Call, CanCountMore, cases_eq, Ended, entry_of_call, Event, faults_after, faults_counted, faults_of, filter_map-append, get_or-set_same, LacksLast, length-map, log, log_failure_of, masks_of_end, masks_of_ends, ne_eqb, next, LogFailed, Reply, Sched, seen_at, SessionView, tells_full, tells_log_failure, WorldState, WorldTurn, act_of, desk_of}
 use Rattle.cj_calls.proofs.Common.{get_seam, HasServer, HasNoServer}
 use Rattle.cj_model.specs.declared.request.Request.{Request}
 use Rattle.cj_model.specs.declared.request.Request.TheVariants as request
@@ -81,21 +81,31 @@ module _ (a z : SoloState) (c : Call) (besides : DoesBesides true a (turn_taken 
         one_more_entry a.session a.world.core.history z.world.core.history (entry_of_call a.session c act) 0 0 refl ended,
       )
 
-  own_grows : (o : Option Act) → AddsOwnEvents a.session c o [] a.world.core.history z.world.core.history → GrowsFaultless a.world.core.placement a.session (seen_at a.world.core a.session) c (seen_at z.world.core z.session) o
-  own_grows None (inl same) = same ∙ append-nil a.world.core.history
-  own_grows None (inr lacks) =
+  -- no failure lacks room where there is none
+  lacks_none : LacksLast a.session c [] a.world.core.history z.world.core.history → ⊥
+  lacks_none lacks =
       let none : 0 ≡ length (lacks.noted ++ lacks.last ∷ []) = ap length lacks.is in
       let some : length (lacks.noted ++ lacks.last ∷ []) ≡ length lacks.noted + 1 = length-append lacks.noted (lacks.last ∷ []) in
-      absurd (omega (arith, none, some))
+      omega (arith, none, some)
+
+  has_room : (o : Option Act) → AddsOwnEvents a.session c o [] a.world.core.history z.world.core.history → o ≡ None → tells_full c.reply ≡ false
+  has_room None (inl notes) query = notes.replied
+  has_room None (inr lacks) query = absurd (lacks_none lacks)
+  has_room (Some act) adds query = cc query
+
+  own_grows : (o : Option Act) → AddsOwnEvents a.session c o [] a.world.core.history z.world.core.history → GrowsFaultless a.world.core.placement a.session (seen_at a.world.core a.session) c (seen_at z.world.core z.session) o
+  own_grows None (inl notes) = notes.grew ∙ append-nil a.world.core.history
+  own_grows None (inr lacks) = absurd (lacks_none lacks)
   own_grows (Some act) adds = entry_grows act adds.0 adds.1
 
   -- what the call comes to
   pub quiet_comes : DeskTurn true (desk_of a) c (desk_of z) → c.reply ≢ refused_reply NO_MEMORY → ComesTo (desk_of a).placement (desk_of a).session (desk_of a).seen c (desk_of z).seen
   quiet_comes t fed =
-      turn_comes (desk_of a).placement (desk_of a).session (desk_of a).seen c (desk_of z).seen
-      (own_grows (act_of c.request) (subst (λ (failed : List ℕ). AddsOwnEvents a.session c (act_of c.request) failed a.world.core.history z.world.core.history) nobody_failed turn.events))
+      let events : AddsOwnEvents a.session c (act_of c.request) [] a.world.core.history z.world.core.history =
+      subst (λ (failed : List ℕ). AddsOwnEvents a.session c (act_of c.request) failed a.world.core.history z.world.core.history) nobody_failed turn.events in
+      turn_comes (desk_of a).placement (desk_of a).session (desk_of a).seen c (desk_of z).seen (own_grows (act_of c.request) events)
       (subst (λ (s : ℕ). IsReadAtEnd c (seen_at z.world.core s)) (sym besides.0) turn.at_end)
-      turn.stands.idle quiet.room fed
+      (has_room (act_of c.request) events) fed
       (quiet_turn true a.session a.world z.world c turn (λ k. quiet.none_rises (suc k)) (All-tail (λ (n : ℕ). n < 2 ^ 64 - 1) a.world.recovery_log.faults (faults_of a.world.cells) quiet.can_count))
       no_store t.turn
 

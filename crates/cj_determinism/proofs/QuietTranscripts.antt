@@ -82,7 +82,6 @@ module _ (begin end : SoloState) (quiet : PassesQuietly begin.world end.world) w
             let fewer = prefix_length (masks_of_ends begin.world.core.history) (masks_of_ends a.world.core.history) (ends-prefix begin.world.core.history a.world.core.history first.0) in
             let ends = ends-prefix z.world.core.history end.world.core.history last.0 in
             quiet.none_starved i failed wanting (omega (arith, low, fewer)) (subst (λ ms. slice_get ms i ≡ Some (failed, wanting)) ends.1 (get_left (masks_of_ends z.world.core.history) ends.0 i (failed, wanting) there));
-        room = let long = prefix_length z.world.core.history end.world.core.history last.0 in let most = quiet.room in omega (arith, long, most);
       }
 
 -- ---- a session

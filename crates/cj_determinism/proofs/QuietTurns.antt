@@ -1,6 +1,6 @@
 -- What a turn comes to in which nothing failed and no memory was wanting: the history before it and what is asked fix
 -- its reply, and what the session sees then.
-use Rattle.std.proofs.Common.{◌≡◌, ◌≢◌, ◌⊎◌, ◌+◌, ◌-◌, ◌*◌, ◌<◌, ◌≤◌, ℕ, true, List, [], ◌∷◌, ◌++◌, length, take, slice_get, Option, Some, None, refl, sym, ap, subst, ◌∙◌, inl, inr, arith, append_assoc, length-append, ⊎_elim}
+use Rattle.std.proofs.Common.{◌≡◌, ◌≢◌, ◌⊎◌, ◌+◌, ◌<◌, ◌≤◌, ℕ, true, false, List, [], ◌∷◌, ◌++◌, length, take, slice_get, Option, Some, None, refl, sym, ap, subst, ◌∙◌, inl, inr, arith, append_assoc, length-append, ⊎_elim}
 use Rattle.std.proofs.lemmas.Bool.{both_ways, cases_eq, eqb-true}
 use Rattle.std.proofs.lemmas.List.{append-nil}
 use Rattle.std.proofs.lemmas.Option.{slice_get_within}
@@ -14,7 +14,6 @@ use Rattle.cj_model.specs.declared.answer.Outcome.{Outcome}
 use Rattle.cj_model.specs.declared.answer.Refusal.{Refusal}
 use Rattle.cj_model.specs.declared.answer.Reply.TheVariants.{Refused}
 use Rattle.cj_model.specs.declared.codes.TheConstants.{HISTORY_FULL, LOG_FAULT, NO_BACKEND, NO_MEMORY, READ_FAULT, UNFINISHED}
-use Rattle.cj_model.specs.declared.limits.TheConstants.{EVENT_LIMIT}
 use Rattle.cj_model.specs.Database.Inserts.{refusal_of_code}
 use Rattle.cj_model.specs.Database.Outcomes.{IsAsked}
 use Rattle.cj_model.specs.Database.Queries.{ask}
@@ -26,9 +25,10 @@ use Rattle.cj_model.proofs.Masks.{has-zero}
 use Rattle.cj_cluster.specs.declared.event.Event.{Event}
 use Rattle.cj_cluster.specs.declared.event.Event.TheVariants.{Sched, Ended}
 use Rattle.cj_cluster.specs.History.Answering.{AnswersEntry, HasNoServer, HasServer, Unfinished}
-use Rattle.cj_cluster.specs.History.Histories.{database_after, ended_count, events_left, is_free, log, masks_of_ends, outcome_of}
+use Rattle.cj_cluster.specs.History.Histories.{database_after, events_left, is_free, log, masks_of_ends, outcome_of}
 use Rattle.cj_cluster.specs.History.Turns.{Call, FullTurn, HasNoRoomFor, IsMomentBetween, NoBackendTurn, ReadTurn, ScheduledTurn, SessionView, Turn, TurnCase, entries_in, entry_count_of, entry_of_call, full, log_fault, no_backend, read, read_fault, scheduled, starved}
 use Rattle.cj_cluster.proofs.Pushed.{get_seam, length-ends, take_whole}
+use Rattle.cj_calls.specs.OwnEvents.{tells_full}
 use Rattle.cj_desk.specs.Determinism.{AsksSameRequest}
 
 -- ---- histories
@@ -145,7 +145,7 @@ module _ (p : Placement) (s : ℕ) (a : SessionView) where
   module _ (c : Call) (z : SessionView)
       (grows : GrowsFaultless c z (act_of c.request))
       (at_end : act_of c.request ≡ None → (answer : Asked) → IsAsked answer → c.reply ≡ asked_reply answer → z.least ≡ length (log z.front))
-      (idle : is_free z.front ≡ true) (room : length z.front < EVENT_LIMIT)
+      (has_room : act_of c.request ≡ None → tells_full c.reply ≡ false)
       (fed : c.reply ≢ Refused (refusal_of_code NO_MEMORY))
       (nobody : (r : Refusal) → c.reply ≡ Refused r → (r.code ≢ READ_FAULT) × (r.code ≢ UNFINISHED))
       (no_store : (r : Refusal) → c.reply ≡ Refused r → r.code ≢ LOG_FAULT) where
@@ -210,21 +210,17 @@ module _ (p : Placement) (s : ℕ) (a : SessionView) where
         x.says refl ∙ (ap (λ (h : List Event). ask (database_after (log h) z.least) c.tx x.select) same ∙ ap (λ (n : ℕ). ask (database_after (log a.front) n) c.tx x.select) least) in
         inr (subst (λ (h : List Event). HasServer p h c.request) now x.served, subst (Serves c z) (sym query) (x.select, x.is, x.replied ∙ ap asked_reply answer, (same, least)))
 
-    -- a history with room for an event has room for a read
-    full_serves : (o : Option Act) → HasNoRoomFor a.front o → c.reply ≡ Refused (record { code = HISTORY_FULL; a = length a.front; b = 0 }) → z.front ≡ a.front → z.least ≡ a.least → Serves c z o
-    full_serves None none replied same least =
-        let over : ended_count a.front ≡ length (log a.front) = eqb-true _ _ (sym (ap is_free same) ∙ idle) in
-        let short : length a.front < EVENT_LIMIT = subst (λ (h : List Event). length h < EVENT_LIMIT) same room in
-        let left : EVENT_LIMIT - (length a.front + 2 * (length (log a.front) - ended_count a.front)) < 1 = none in
-        absurd (omega (arith, over, short, left))
-    full_serves (Some act) lacks replied same least = inl (lacks.1, replied, (same, least))
+    -- a query in which no backend failed is not refused for want of room
+    full_serves : (o : Option Act) → act_of c.request ≡ o → HasNoRoomFor a.front o → c.reply ≡ Refused (record { code = HISTORY_FULL; a = length a.front; b = 0 }) → z.front ≡ a.front → z.least ≡ a.least → Serves c z o
+    full_serves None query none replied same least = absurd (both_ways (tells_full c.reply) (has_room query) (ap tells_full replied))
+    full_serves (Some act) writes lacks replied same least = inl (lacks.1, replied, (same, least))
 
     full_comes : FullTurn p a c z → z.front ≡ a.front → ComesTo c z
     full_comes x same =
         let now = one_moment a.front z.front x.m x.moment same in
         inr (
           subst (λ (h : List Event). HasServer p h c.request) now.1 x.served,
-          full_serves (act_of c.request) (subst (λ (h : List Event). HasNoRoomFor h (act_of c.request)) now.1 x.full) (x.replied ∙ ap (λ (n : ℕ). Refused (record { code = HISTORY_FULL; a = n; b = 0 })) now.0) same x.least,
+          full_serves (act_of c.request) refl (subst (λ (h : List Event). HasNoRoomFor h (act_of c.request)) now.1 x.full) (x.replied ∙ ap (λ (n : ℕ). Refused (record { code = HISTORY_FULL; a = n; b = 0 })) now.0) same x.least,
         )
 
     case_comes : (case : TurnCase true p s a c z) → entry_count_of s z.front ≡ entry_count_of s a.front + entries_in case → ComesTo c z

@@ -1,7 +1,6 @@
 -- Calls and sessions of a Solo in which nothing failed, and what fixes them then.
-use Rattle.std.specs.Prelude.{◌≡◌, ℕ, ◌<◌, ◌≤◌, Bool, List, ◌∷◌, length, slice_get, slice_index_or}
+use Rattle.std.specs.Prelude.{◌≡◌, ℕ, ◌≤◌, Bool, List, ◌∷◌, length, slice_get, slice_index_or}
 use Rattle.std.specs.declared.option.Option.TheVariants.{Some}
-use Rattle.cj_model.specs.declared.limits.TheConstants.{EVENT_LIMIT}
 use Rattle.cj_model.specs.Cluster.Caching.{CacheState}
 use Rattle.cj_cluster.specs.declared.event.Event.{Event}
 use Rattle.cj_cluster.specs.History.Histories.{masks_of_ends}
@@ -32,12 +31,11 @@ abbrev pub NoneStarved : List Event → List Event → Type 0
 NoneStarved before now = (i failed starved : ℕ) → length (masks_of_ends before) ≤ i → slice_get (masks_of_ends now) i ≡ Some (failed, starved) → starved ≡ 0
 
 -- Nothing failed from one world to the other: no count of faults rose, where each could, and no backend ran out of
--- memory in an entry. The history is not full.
+-- memory in an entry.
 pub record PassesQuietly (old new : WorldState) : Type 0 where
   pub can_count : CanCountMore (fault_counts old)
   pub none_rises : NoneRises old new
   pub none_starved : NoneStarved old.core.history new.core.history
-  pub room : length new.core.history < EVENT_LIMIT
 
 -- the call leads the session from a to z, and nothing failed in it
 abbrev pub QuietSteps : Bool → SoloState → DeskCall → SoloState → Type 0

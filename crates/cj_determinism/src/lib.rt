@@ -4,7 +4,6 @@
 //! bytes. For a `Solo` the view has what its desk looks like and its result cache (`SoloView`). It shows enough where
 //! nothing fails (`PassesQuietly`), no memory is wanting and the backends tell what they hold.
 //! Promised of starts in which nothing failed (`StartsQuietly`): over the same log the first session begins alike.
-//! Left out: sessions at whose end the history is full.
 //! To read: `specs/AlikeDesks`, `specs/QuietSolos`, `specs/QuietStarts`. Nothing builds on this crate.
 //! Proofs begin in `proofs/AlikeTranscripts`; in `QuietTurns`, `QuietSteps` and `QuietTranscripts`; in `QuietStarts`.
 #![tactic(auto)]

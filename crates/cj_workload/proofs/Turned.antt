@@ -38,7 +38,7 @@ entry_enables_none zero s c act failed h g adds = ap enablings adds.0 ∙ grown 
 entry_enables_none (suc n) s c act failed h g adds = ap enablings adds.1.1 ∙ grown h (Sched (entry_of_call s c act) ∷ Ended (mask_with 0 failed) adds.1.0 ∷ []) 0 refl
 
 turn_enables_none : (s : ℕ) (c : Call) (o : Option Act) (failed : List ℕ) (h g : List Event) → AddsOwnEvents s c o failed h g → enablings g ≡ enablings h + 0
-turn_enables_none s c None failed h g (inl e) = ap enablings e ∙ grown h (map (ReadFailed s c.number) failed) 0 (read_enables_none s c.number failed)
+turn_enables_none s c None failed h g (inl notes) = ap enablings notes.grew ∙ grown h (map (ReadFailed s c.number) failed) 0 (read_enables_none s c.number failed)
 turn_enables_none s c None failed h g (inr lacks) = ap enablings lacks.grew ∙ grown h (map (ReadFailed s c.number) lacks.noted) 0 (read_enables_none s c.number lacks.noted)
 turn_enables_none s c (Some act) failed h g adds = entry_enables_none adds.0 s c act failed h g adds.1
 
@@ -68,7 +68,7 @@ read_leaves_ends s q failed h g grew =
     ∙ (filter_map-append masks_of_end h (map (ReadFailed s q) failed) ∙ (ap (λ (masks : List (ℕ × ℕ)). masks_of_ends h ++ masks) (read_ends_none s q failed) ∙ append-nil (masks_of_ends h)))
 
 read_starves_none : (s : ℕ) (c : Call) (failed : List ℕ) (h g : List Event) → AddsOwnEvents s c None failed h g → EndsStarving 0 h g
-read_starves_none s c failed h g (inl grew) = inr (refl, read_leaves_ends s c.number failed h g grew)
+read_starves_none s c failed h g (inl notes) = inr (refl, read_leaves_ends s c.number failed h g notes.grew)
 read_starves_none s c failed h g (inr lacks) = inr (refl, read_leaves_ends s c.number lacks.noted h g lacks.grew)
 
 pub fed_read : (tells : Bool) (a z : SoloState) (tx : ℕ) (user : List ℕ) (select : Select) (reply : Reply) → SoloSteps tells a (turn_taken (next_call (desk_of a) tx user (request.Select select) reply)) z
