@@ -15,6 +15,7 @@
 mod configured;
 mod files;
 mod generated;
+mod laws;
 mod listed;
 mod piped;
 mod program;
@@ -23,6 +24,7 @@ mod scripted;
 mod words;
 
 pub use files::Paths;
+pub use laws::completeness_follows;
 pub use piped::{PipeError, pipe};
 pub use program::{Ended, run};
 pub use scripted::play;
