@@ -2,6 +2,7 @@ pub mod ArmedBackends
 pub mod AskedWords
 pub mod Cited
 pub mod Common
+pub mod Completed
 pub mod InputScripts
 pub mod InputSessions
 pub mod Longer

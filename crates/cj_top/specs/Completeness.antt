@@ -1,4 +1,5 @@
--- Completeness: what a session and a script have done that their input ended, and from which logs commands go on.
+-- Completeness: what a session, a script and a command have done that their input ended, and from which logs commands
+-- go on.
 use Rattle.std.specs.Prelude.{◌≡◌, ◌⊎◌, ℕ, ◌+◌, ◌<◌, ◌≤◌, Bool, true, false, if◌then◌else◌, List, [], ◌∷◌, ◌++◌, length, take, nat_lt, All, IfSome}
 use Rattle.std.specs.declared.option.Option.{Option}
 use Rattle.std.specs.declared.option.Option.TheVariants.{None, Some}
@@ -22,12 +23,16 @@ use Rattle.cj_cluster.specs.Wire.Sessions.{answered_messages, is_quit}
 use Rattle.cj_log.specs.declared.item.LogItem.{LogItem}
 use Rattle.cj_recovery.specs.Openings.{OpensTo}
 use Rattle.cj_book.specs.Starts.{greatest_session}
+use Rattle.cj_conf.specs.declared.conf.Conf.{Conf}
+use Rattle.cj_core.specs.QuietCalls.{BlamesNobody}
 use Rattle.cj_desk.specs.SessionTranscripts.{bad_frame_reply}
 use Rattle.cj_script.specs.Script.{IsWrong, audit_line}
 use Rattle.cj_script.specs.declared.play.ScriptEnd.{ScriptEnd}
 use Rattle.cj_script.specs.declared.play.ScriptEnd.TheVariants as script_ends
 use Rattle.cj_args.specs.declared.asked.Command.{Command}
 use Rattle.cj_args.specs.declared.asked.Command.TheVariants.{Pipe, Script, Log, Gen}
+use Rattle.cj_top.specs.Configured.{in_memory}
+use Rattle.cj_top.specs.Program.{status_of_script, status_of_session}
 
 -- ---- an input
 
@@ -126,6 +131,33 @@ is_script_end_by_input script_ends.NoMemory = false
 -- A script that its input ended was played as far as that goes. Where the input tells its bytes, they fix the end.
 abbrev pub PlaysInput : (names : List (List ℕ)) (left : Option (List ℕ)) → ScriptEnd → Type 0
 PlaysInput names left ending = IfSome left (λ bytes. (lines : List (List ℕ)) (last : List ℕ) → AreLines bytes lines last → EndsAtLine names (is_short_input bytes) (lines ++ last ∷ []) ending)
+
+-- ---- a command
+
+-- `pipe` came to this status by a session that its input ended, and that answered all of it. No reply says that
+-- backends failed where all are in memory (`memory`).
+pub record PipesInput (memory : Bool) (left held held' : Option (List ℕ)) (status : ℕ) : Type 0 where
+  pub ending : SessionEnd
+  pub by_input : is_end_by_input ending ≡ true
+  pub replies : List Reply
+  pub answers : AnswersInput replies left held held' ending
+  pub blameless : memory ≡ true → All BlamesNobody replies
+  pub status_is : status ≡ status_of_session ending
+
+-- `script` came to this status by a script that its input ended, and that was played as far as that goes
+pub record ScriptsInput (names : List (List ℕ)) (left : Option (List ℕ)) (status : ℕ) : Type 0 where
+  pub ending : ScriptEnd
+  pub by_input : is_script_end_by_input ending ≡ true
+  pub plays : PlaysInput names left ending
+  pub status_is : status ≡ status_of_script ending
+
+-- A command with this configuration came to this status, and to the end of its input. The input had `left`, and the
+-- output held `held`, and then `held'`.
+abbrev pub CompletesCommand : Command → (left held held' : Option (List ℕ)) (status : ℕ) → Conf → Type 0
+CompletesCommand (Pipe path) left held held' status c = PipesInput (in_memory c) left held held' status
+CompletesCommand (Script path) left held held' status c = ScriptsInput c.placement.names left status
+CompletesCommand (Log path) left held held' status c = status ≡ 0
+CompletesCommand (Gen path seed count) left held held' status c = status ≡ 0
 
 -- ---- a log
 

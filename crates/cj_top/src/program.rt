@@ -256,7 +256,7 @@ pub fn run<F: Store, S: Store + Drop, I: Source, O: Sink, E: Sink, C: Clock>(
     ensures output { CountsFault (result.status ≡ 6) (O.faults output.old) (O.faults output.new) }
 
     // Statuses 8 and 12 come from the log's items alone. Those of faults are above, and what the input ended is
-    // whole.
+    // whole: from the clauses above follows what a command comes to at any other status but 1 (`laws`).
     ensures opens { S.tells ≡ true → (command : Command) → Says (map string_bytes words.now) command → (items : List LogItem) → KeepsItems (S.held log) items → GoesOnFrom command items → (result.status ≢ 8) × (result.status ≢ 12) }
 {
     match read(alloc, words) {
