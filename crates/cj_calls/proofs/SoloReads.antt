@@ -461,7 +461,7 @@ module _ (tells : Bool) (s tx : ℕ) (user : List ℕ) (select : Select) (old no
         → ((k : ℕ) → is_enabled old.core.history k ≡ false → slice_get new.cells k ≡ slice_get old.cells k) → WorldTurn tells s old (call reply) new
     answered_turn b there answered calls disabled =
         read_is_turn new (λ x. answered_at (last_number now.core) (was_answered x)) (λ x. refl) answered.after (last_number now.core) refl (rw stands.no_read refl) refl stands reply so_far.failed so_far.backends
-        (answers b reply new there answered) setup recovery_log calls disabled 
+        (answers b reply new there answered) setup recovery_log calls disabled
         (noted (ap (λ (c : Core). c.history) answered.after) (answer_has_room reply answered.answer answered.possible answered.replied)) (answered.faults ∙ so_far.faults)
 
     module _ (b : ℕ) (place : b < length old.cells) (first : PicksFirst balance left b) (picked : now.balance ≡ read_over balance b) where
