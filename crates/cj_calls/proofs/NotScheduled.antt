@@ -1,11 +1,11 @@
 -- What a session is told whose entry was not scheduled, and what that leaves.
-use Rattle.std.proofs.Common.{◌≡◌, ◌==◌, ℕ, List, inl, inr, Err, IsErrOf, Result, refl, ap, subst}
+use Rattle.std.proofs.Common.{◌≡◌, ℕ, inl, inr, Err, IsErrOf, Result, refl, ap, subst}
 use Rattle.std.specs.Prelude.{unwrap_or}
 use Rattle.cj_model.specs.declared.codes.TheConstants.{HISTORY_FULL, NO_MEMORY}
 use Rattle.cj_book.specs.declared.error.BookError.TheVariants.{InProgress, NoBackend, HistoryFull, LogFault, NoMemory}
 use Rattle.cj_book.specs.Refusals.{refusal_of}
 use Rattle.cj_outside.specs.Causes.{CountsFault}
-use Rattle.cj_calls.proofs.Common.{BookError, CacheFollowsLog, Core, core_scheduled, Entry, EntryRefused, follows_same, happened, IsSameWorldButLog, log, LogFailed, Refusal, refusal_of_code, SchedulesAs, SchedulesOrRefuses, with_cache, with_core, WorldState}
+use Rattle.cj_calls.proofs.Common.{BookError, CacheFollowsLog, Core, core_scheduled, Entry, EntryRefused, follows_same, IsSameWorldButLog, log, Refusal, refusal_of_code, SchedulesAs, SchedulesOrRefuses, with_cache, with_core, WorldState}
 use Rattle.cj_calls.proofs.WriteCache.{refused_after}
 use Rattle.cj_moves.proofs.SameWorlds.{with_same_cache}
 

@@ -1,8 +1,7 @@
 -- At desks that stay alike, a message has one reply, unless memory is wanting.
 use Rattle.std.proofs.Common.{◌≡◌, ◌≢◌, ◌+◌, ℕ, ℤ, true, List, [], ◌∷◌, ◌++◌, Option, Some, None, IfSome, refl, sym, ap, subst, ◌∙◌, inl, inr}
 use Rattle.std.proofs.lemmas.List.{append-nil}
-use Rattle.cj_session.proofs.Common.{DeskState, flat_map, Message, NO_MEMORY, Reply, Request, SessionEnd, Stats}
-use Rattle.cj_cluster.specs.declared.session.SessionEnd.TheVariants as end
+use Rattle.cj_session.proofs.Common.{DeskState, flat_map, Message, NO_MEMORY, Reply, Request, SessionEnd}
 use Rattle.cj_model.specs.Wire.Frames.{frame, Frames}
 use Rattle.cj_model.specs.declared.message.Message.TheVariants as message
 use Rattle.cj_model.specs.Sql.Macros.{bounds, generator_after_draws}

@@ -1,5 +1,5 @@
 -- A session over which nothing failed is one of quiet calls.
-use Rattle.std.proofs.Common.{◌≡◌, ◌⊎◌, ◌-◌, ◌^◌, ◌<◌, ◌≤◌, ℕ, ℤ, zero, suc, true, false, Bool, List, [], ◌∷◌, length, get_or, slice_get, Option, Some, None, refl, sym, ap, subst, inl, inr, arith, ⊎_elim}
+use Rattle.std.proofs.Common.{◌≡◌, ◌-◌, ◌^◌, ◌<◌, ◌≤◌, ℕ, ℤ, zero, suc, true, false, Bool, List, [], ◌∷◌, length, get_or, slice_get, Option, Some, None, refl, sym, ap, subst, inl, inr, arith, ⊎_elim}
 use Rattle.std.proofs.lemmas.Bool.{cases_lt}
 use Rattle.cj_core.proofs.Common.{Call, desk_of, ends-prefix, faults_of, get_or_default, get_or_past, IsPrefix, log_failed_in, log_faults_after, masks_of_ends, prefix_length, Reply, WorldState, WorldTurn}
 use Rattle.cj_calls.proofs.Common.{get_left, prefix_self}
