@@ -61,10 +61,10 @@ impl From<NoMemory> for Stop {
 }
 
 impl From<Stop> for WorkloadError {
-    ghost use Rattle.std.specs.Prelude.{◌≡◌, ◌⊎◌};
+    ghost use Rattle.std.specs.Prelude.{◌≢◌};
     ghost use Rattle.cj_workload.specs.declared.playing.WorkloadError.TheVariants as errors;
 
-    ghost from_gives = { λ _ e. (e ≡ errors.LogFault) ⊎ (e ≡ errors.NoMemory) };
+    ghost from_gives = { λ _ e. e ≢ errors.SessionsFull };
 
     fn from(stop: Stop) -> WorkloadError {
         match stop {
