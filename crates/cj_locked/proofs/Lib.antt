@@ -1,0 +1,4 @@
+pub mod Passes
+pub mod Taking
+pub mod Tallying
+pub mod Turns

@@ -1,0 +1,4 @@
+pub mod Named
+pub mod Passes
+pub mod Taking
+pub mod Turns
