@@ -1,3 +1,5 @@
+pub mod Ending
+pub mod Following
 pub mod Passes
 pub mod Taking
 pub mod Tallying

@@ -23,8 +23,10 @@ use Rattle.cj_locked.specs.Taking.{HasTallied, NotesReport, ReportsEntry}
 -- nobody has reported
 pub tallied_none : (tells : Bool) (p : Placement) (n : ℕ) (e : Entry) (v : SeatView) → HasTallied tells p n e v no_reports
 tallied_none tells p n e v = record {
-  taken = λ b on. absurd (both_ways (in_mask 0 b) (has-zero b) on);
-  failed = λ b on. absurd (both_ways (in_mask 0 b) (has-zero b) on);
+  noted = record {
+    taken = λ b on. absurd (both_ways (in_mask 0 b) (has-zero b) on);
+    failed = λ b on. absurd (both_ways (in_mask 0 b) (has-zero b) on);
+  };
   right = none_tallied tells p (log v.front) (n - 1) e;
 }
 
@@ -32,8 +34,10 @@ module _ (tells : Bool) (p : Placement) (n : ℕ) (e : Entry) (v w : SeatView) (
   -- what was tallied holds on
   pub tallied_on : HasTallied tells p n e w t
   tallied_on = record {
-    taken = λ b on. more.positions (b, n) (tallied.taken b on);
-    failed = λ b on. (let m : 0 < fault_tokens_of b v.fault_tokens = tallied.failed b on in let k : fault_tokens_of b v.fault_tokens ≤ fault_tokens_of b w.fault_tokens = more.tokens b in omega arith);
+    noted = record {
+      taken = λ b on. more.positions (b, n) (tallied.noted.taken b on);
+      failed = λ b on. (let m : 0 < fault_tokens_of b v.fault_tokens = tallied.noted.failed b on in let k : fault_tokens_of b v.fault_tokens ≤ fault_tokens_of b w.fault_tokens = more.tokens b in omega arith);
+    };
     right = record {
       right = λ o is. (let of : IsRightOutcome tells (log v.front) (n - 1) o = tallied.right.right o is in
           (of.0, λ on. outcome_longer (log v.front) (log w.front) (log-prefix v.front w.front more.seen.front) n e there (Ok (caught.Did o)) (of.1 on)));
@@ -47,18 +51,18 @@ module _ (tells : Bool) (p : Placement) (n : ℕ) (e : Entry) (v w : SeatView) (
 
   module _ (b : ℕ) where
     taken_more : (d : Did) → NotesReport w n b d → (k : ℕ) → in_mask (with_report t b d).taken k ≡ true → Contains w.position_notes (k, n)
-    taken_more (did.Done o) noted = with_one (λ k. Contains w.position_notes (k, n)) t.taken b tallied_on.taken noted
-    taken_more did.Skipped noted = with_one (λ k. Contains w.position_notes (k, n)) t.taken b tallied_on.taken noted
-    taken_more did.Failed noted = tallied_on.taken
-    taken_more did.Starved noted = tallied_on.taken
+    taken_more (did.Done o) noted = with_one (λ k. Contains w.position_notes (k, n)) t.taken b tallied_on.noted.taken noted
+    taken_more did.Skipped noted = with_one (λ k. Contains w.position_notes (k, n)) t.taken b tallied_on.noted.taken noted
+    taken_more did.Failed noted = tallied_on.noted.taken
+    taken_more did.Starved noted = tallied_on.noted.taken
 
     failed_more : (d : Did) → NotesReport w n b d → (k : ℕ) → in_mask (with_report t b d).failed k ≡ true → 0 < fault_tokens_of k w.fault_tokens
-    failed_more (did.Done o) noted = tallied_on.failed
-    failed_more did.Skipped noted = tallied_on.failed
-    failed_more did.Failed noted = with_one (λ k. 0 < fault_tokens_of k w.fault_tokens) t.failed b tallied_on.failed noted
-    failed_more did.Starved noted = tallied_on.failed
+    failed_more (did.Done o) noted = tallied_on.noted.failed
+    failed_more did.Skipped noted = tallied_on.noted.failed
+    failed_more did.Failed noted = with_one (λ k. 0 < fault_tokens_of k w.fault_tokens) t.failed b tallied_on.noted.failed noted
+    failed_more did.Starved noted = tallied_on.noted.failed
 
     -- and with the report of backend b: `took` says that the tally is right then
     pub tallied_more : (d : Did) → ReportsEntry tells p n e w b d
         → (IsTallyOf tells p (log w.front) (n - 1) e t → IsReportOf tells p (log w.front) (n - 1) e b d → IsTallyOf tells p (log w.front) (n - 1) e (with_report t b d)) → HasTallied tells p n e w (with_report t b d)
-    tallied_more d reports took = record { taken = taken_more d reports.noted; failed = failed_more d reports.noted; right = took tallied_on.right reports.right }
+    tallied_more d reports took = record { noted = record { taken = taken_more d reports.noted; failed = failed_more d reports.noted }; right = took tallied_on.right reports.right }

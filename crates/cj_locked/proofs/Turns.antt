@@ -41,7 +41,7 @@ turn_events_push h x =
     let none : turn_events_of [] ≡ 0 = refl in
     omega (arith, all, one, none)
 
-turn_events_more : (g rest : List Event) → turn_events_of g ≤ turn_events_of (g ++ rest)
+pub turn_events_more : (g rest : List Event) → turn_events_of g ≤ turn_events_of (g ++ rest)
 turn_events_more g rest = let all : turn_events_of (g ++ rest) ≡ turn_events_of g + turn_events_of rest = sum_by-append (λ y. cond (needs_turn y) 1 0) g rest in omega arith
 
 -- one event more that needs the turn is one too many

@@ -1,4 +1,6 @@
+pub mod Locked
 pub mod Named
 pub mod Passes
 pub mod Taking
 pub mod Turns
+pub mod Writing

@@ -36,8 +36,12 @@ pub record ReportsEntry (tells : Bool) (p : Placement) (n : ℕ) (e : Entry) (v 
   pub noted : NotesReport v n b d
   pub right : IsReportOf tells p (log v.front) (n - 1) e b d
 
--- the tally is of entry n; the pass has noted who took it, and has a fault token of each that failed
-pub record HasTallied (tells : Bool) (p : Placement) (n : ℕ) (e : Entry) (v : SeatView) (t : Tally) : Type 0 where
+-- the pass has noted who took entry n by the tally, and has a fault token of each backend that failed in it
+pub record NotesTally (v : SeatView) (n : ℕ) (t : Tally) : Type 0 where
   pub taken : (b : ℕ) → in_mask t.taken b ≡ true → Contains v.position_notes (b, n)
   pub failed : (b : ℕ) → in_mask t.failed b ≡ true → 0 < fault_tokens_of b v.fault_tokens
+
+-- the tally is of entry n, and the pass has noted it
+pub record HasTallied (tells : Bool) (p : Placement) (n : ℕ) (e : Entry) (v : SeatView) (t : Tally) : Type 0 where
+  pub noted : NotesTally v n t
   pub right : IsTallyOf tells p (log v.front) (n - 1) e t

@@ -1,5 +1,7 @@
 -- The turn: who has it alone brings events, but for failures in reads.
-use Rattle.std.specs.Prelude.{ℕ, Bool, true, false, List, count_by}
+use Rattle.std.specs.Prelude.{ℕ, ◌+◌, ◌*◌, Bool, true, false, List, count_by}
+use Rattle.std.specs.declared.option.Option.{Option}
+use Rattle.std.specs.declared.option.Option.TheVariants.{None, Some}
 use Rattle.cj_cluster.specs.declared.event.Event.{Event}
 use Rattle.cj_cluster.specs.declared.event.Event.TheVariants.{Sched, Ended, ReadFailed, LogFailed, Disabled, Enabled, Marker}
 
@@ -16,3 +18,18 @@ needs_turn (Marker name b) = true
 -- how many events of a history were brought with the turn
 abbrev pub turn_events_of : List Event → ℕ
 turn_events_of h = count_by needs_turn h
+
+-- one for an entry that is on its way into the recovery log, two for a marker
+abbrev pub pending_weight : Option Event → ℕ
+pending_weight None = 0
+pending_weight (Some (Sched e)) = 1
+pending_weight (Some (Ended failed starved)) = 2
+pending_weight (Some (ReadFailed s q b)) = 2
+pending_weight (Some (LogFailed s q)) = 2
+pending_weight (Some (Disabled b)) = 2
+pending_weight (Some (Enabled b)) = 2
+pending_weight (Some (Marker name b)) = 2
+
+-- the turn's amount: three for each event that was brought with the turn, and the weight of what is pending
+abbrev pub turn_amount : List Event → Option Event → ℕ
+turn_amount h pending = 3 * turn_events_of h + pending_weight pending

@@ -8,11 +8,13 @@
 //! To read: `specs/Passes` and `specs/Turns`. Proofs begin in `proofs/Passes` (what a pass knows more).
 #![tactic(auto)]
 
+mod book;
 mod cell;
 mod naming;
 mod pass;
 mod turn;
 
+pub use book::{LockedBook, OpenEntry};
 pub use cell::LockedCell;
 pub use naming::{Naming, TurnLedger};
 pub use pass::{NamedBoard, Pass};

@@ -3,23 +3,28 @@
 ghost use Rattle.std.specs.Prelude.{◌≡◌, ◌+◌};
 
 use crate::naming::{Naming, TurnLedger};
+use cj_book::BookLog;
+use cj_outside::Store;
 use std::sync::ledger::{Book, Share};
 
-/// The turn, of which there is one. Its amount is how many events the history has that were brought with the turn.
-/// So whoever has it knows that none came meanwhile: the open entry is still open, and the same backends are enabled.
+/// The turn, of which there is one. Who has it has the recovery log too, so an append to that needs no lock.
+///
+/// Its amount tells which events came that need the turn (`turn_amount`). So whoever has it knows that none came
+/// meanwhile: the open entry is still open, and the same backends are enabled.
 #[derive(Drop)]
-pub struct Turn<J: Naming> {
+pub struct Turn<J: Naming, S: Store> {
     pub(crate) share: Share<TurnLedger<J>>,
+    pub(crate) log: BookLog<S>,
     ghost whole: { share.parts ≡ 1 },
 }
 
-impl<J: Naming> Turn<J> {
-    /// Makes the turn of the ledger's one part.
-    pub fn new(share: Share<TurnLedger<J>>) -> Turn<J>
+impl<J: Naming, S: Store> Turn<J, S> {
+    /// Makes the turn of the ledger's one part and the log.
+    pub fn new(share: Share<TurnLedger<J>>, log: BookLog<S>) -> Turn<J, S>
         requires { share.parts ≡ 1 }
-        ensures { result.share ≡ share }
+        ensures { (result.share ≡ share) × (result.log ≡ log) }
     {
-        Turn { share }
+        Turn { share, log }
     }
 
     /// Shows that the ledger's total is the turn's amount.
@@ -27,15 +32,17 @@ impl<J: Naming> Turn<J> {
         ensures total { ledger.new.total ≡ ledger.old.total }
         ensures amount { self.new.share.amount ≡ self.old.share.amount }
         ensures whole { self.old.share.amount ≡ ledger.old.total }
+        ensures log { self.new.log ≡ self.old.log }
     {
         ledger.audit(&mut self.share);
     }
 
-    /// Counts an event that was brought with the turn.
-    pub(crate) fn count(&mut self, ledger: &mut Book<TurnLedger<J>>)
-        ensures total { ledger.new.total ≡ ledger.old.total + 1 }
-        ensures amount { self.new.share.amount ≡ self.old.share.amount + 1 }
+    /// Adds to the turn's amount.
+    pub(crate) fn count(&mut self, ledger: &mut Book<TurnLedger<J>>, more: u64)
+        ensures total { ledger.new.total ≡ ledger.old.total + more }
+        ensures amount { self.new.share.amount ≡ self.old.share.amount + more }
+        ensures log { self.new.log ≡ self.old.log }
     {
-        ledger.add(&mut self.share, 1);
+        ledger.add(&mut self.share, more);
     }
 }

@@ -1,0 +1,154 @@
+//! The book behind its lock.
+
+ghost use Rattle.std.specs.Prelude.{◌≡◌, ◌-◌, ◌&&◌, not, ℕ, Bool, true, false, length, None, Some, IsNone, is_none};
+ghost use Rattle.cj_model.specs.Cluster.Masks.{in_mask};
+ghost use Rattle.cj_cluster.specs.History.Histories.{is_free, log};
+ghost use Rattle.cj_cluster.specs.History.Legality.{IsLegal};
+ghost use Rattle.cj_place.specs.Layouts.{placement_of};
+ghost use Rattle.cj_board.specs.Seats.{front, pass_view};
+ghost use Rattle.cj_book.specs.BookLogs.{LogFollows};
+ghost use Rattle.cj_book.specs.Seated.{GivesOwnPassesOnly};
+ghost use Rattle.cj_tally.specs.Tallies.{IsTallyOf};
+ghost use Rattle.cj_locked.specs.Passes.{HasNotedMore, HasSeenMore};
+ghost use Rattle.cj_locked.specs.Taking.{NotesTally};
+ghost use Rattle.cj_locked.specs.Turns.{turn_events_of};
+ghost use Rattle.cj_locked.specs.Writing.{EndsSince, HoldsEntry, Settles};
+
+use crate::naming::{Naming, TurnLedger};
+use crate::pass::{NamedBoard, Pass};
+use crate::turn::Turn;
+use cj_book::Book;
+use cj_model::{Entry, Reply};
+use cj_outside::Store;
+use cj_tally::Tally;
+use std::marker::{Model, PhantomData};
+use std::sync::ledger;
+
+/// The book of the board and the layout that `J` names, with the turn where nobody has it.
+#[derive(Drop)]
+pub struct LockedBook<J: Naming, S: Store> {
+    book: Book,
+    ledger: ledger::Book<TurnLedger<J>>,
+    turn: Option<Turn<J, S>>,
+    of: PhantomData<J>,
+}
+
+impl<J: Naming, S: Store> Model for LockedBook<J, S> {
+    ghost use Rattle.std.specs.Option.{option_map};
+    ghost use Rattle.cj_locked.specs.Locked.{IsLocked, LockedState};
+
+    ghost Value = { LockedState S };
+
+    ghost use Rattle.std.specs.Coded.{codes};
+    ghost use Rattle.cj_model.specs.Proving.ConditionCode.{coded_condition};
+
+    ghost coded = { Prim.hlevel (codes, coded_condition) };
+
+    ghost view = { λ x. record { book = x.book; log = option_map (λ t. t.log) x.turn } };
+
+    ghost invariant = { λ x. IsLocked J.board J.layout S.tells S.faults x.ledger.total (record { book = x.book; log = option_map (λ t. t.log) x.turn }) };
+}
+
+/// What the writer of an entry has while it is open.
+#[derive(Drop)]
+pub struct OpenEntry<J: Naming, S: Store> {
+    pub number: u64,
+    /// The mask of the backends that are enabled until the entry ends.
+    pub enabled: u32,
+    pub turn: Turn<J, S>,
+}
+
+/// The mask without the backends of another.
+fn without(mask: u32, other: u32) -> u32
+    ensures { (b : ℕ) → in_mask result b ≡ (in_mask mask b && not (in_mask other b)) }
+{
+    mask & !other
+}
+
+/// The tally with masks that fit the enabled backends, each of which is in one of the three.
+fn settled(tally: Tally, enabled: u32) -> Tally
+    ensures { Settles enabled tally result }
+{
+    Tally {
+        taken: tally.taken,
+        failed: without(enabled & tally.failed, tally.taken),
+        starved: without(without(enabled, tally.taken), tally.failed),
+        first_outcome: tally.first_outcome,
+    }
+}
+
+impl<J: Naming, S: Store + Drop> LockedBook<J, S> {
+    /// Takes the book, whose history has no failures in reads, and the turn with its log.
+    pub fn new(
+        book: Book,
+        mut ledger: ledger::Book<TurnLedger<J>>,
+        mut turn: Turn<J, S>,
+    ) -> LockedBook<J, S>
+        requires board { book.board ≡ J.board }
+        requires layout { book.state.layout ≡ J.layout }
+        requires gives { GivesOwnPassesOnly book }
+        requires idle { (is_free book.state.history ≡ true) × (book.pending ≡ None) }
+        requires unfailed { turn_events_of book.state.history ≡ length book.state.history }
+        requires total { ledger.total ≡ 0 }
+        requires follows { LogFollows S.tells S.faults turn.log book.state.history }
+        ensures { result ≡ record { book = book; log = Some turn.log } }
+    {
+        book.legal();
+        turn.count(&mut ledger, 3 * book.events());
+        LockedBook {
+            book,
+            ledger,
+            turn: Some(turn),
+            of: PhantomData,
+        }
+    }
+
+    /// Returns whether somebody has the turn.
+    pub fn is_taken(&self) -> bool
+        ensures { result ≡ is_none self.now.log }
+    {
+        self.turn.is_none()
+    }
+
+    /// Shows the pass the whole history. Book and pass then have each other's notes.
+    pub fn tell(&mut self, board: &NamedBoard<J>, pass: &mut Pass<J>)
+        ensures more { HasNotedMore (pass_view pass.old.seat) (pass_view pass.new.seat) }
+        ensures told { front pass.new.seat ≡ self.old.book.state.history }
+        ensures legal { IsLegal (front pass.new.seat) }
+        ensures state { self.new.book.state ≡ self.old.book.state }
+        ensures log { self.new.log ≡ self.old.log }
+    {
+        self.book.legal();
+        self.book.tell(&board.board, &mut pass.seat);
+    }
+
+    /// Ends the open entry, whose writer this is, by what was tallied of it, and answers it. The turn is there again.
+    pub fn end(
+        &mut self,
+        board: &NamedBoard<J>,
+        pass: &mut Pass<J>,
+        entry: OpenEntry<J, S>,
+        e: &Entry,
+        tally: Tally,
+    ) -> Reply
+        requires holds { HoldsEntry S.tells S.faults (placement_of J.layout) (front pass.old.seat) entry.number e.now entry.turn.share.amount entry.turn.log }
+        requires noted { NotesTally (pass_view pass.old.seat) entry.number tally }
+        ensures seen { HasSeenMore (pass_view pass.old.seat) (pass_view pass.new.seat) }
+        ensures legal { IsLegal (front pass.new.seat) }
+        ensures ended { (tells : Bool) → IsTallyOf tells (placement_of J.layout) (log (front pass.old.seat)) (entry.number - 1) e.now tally → EndsSince tells (placement_of J.layout) (front pass.old.seat) entry.number e.now result (front pass.new.seat) }
+    {
+        let OpenEntry { mut turn, .. } = entry;
+        self.book.learn(&board.board, &mut pass.seat);
+        self.book.legal();
+        turn.audit(&mut self.ledger);
+        let tally = settled(tally, self.book.enabled());
+        let reply = tally.reply(self.book.targets());
+        self.book
+            .end(&board.board, tally.failed, tally.starved);
+        turn.count(&mut self.ledger, 3);
+        self.turn = Some(turn);
+        self.book.legal();
+        self.book.tell(&board.board, &mut pass.seat);
+        reply
+    }
+}
