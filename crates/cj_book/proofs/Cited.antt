@@ -11,7 +11,7 @@ pub use Rattle.cj_book.proofs.LogFollowing.{appended_entry, appended_fault, appe
 pub use Rattle.cj_book.proofs.Logged.{gate_shut, kept_in, shut_where}
 pub use Rattle.cj_book.proofs.Marked.{has_named, marked_more, marked_same}
 pub use Rattle.cj_book.proofs.Numbered.{changed, changed_rises, found_among, numbers_without, removed, removed_rises, rises_push, searched, unchanged, unremoved}
-pub use Rattle.cj_book.proofs.Owned.{came_gives, closed_out, entry_counts, failure_counts, given_low, low_sessions, mark_sessions, marks_greatest, next_after, opened_note, opening_gives, own_can_count, own_front, own_gives, own_same, scheduled_own, schedules_greatest, schedules_longer, still_own}
+pub use Rattle.cj_book.proofs.Owned.{came_gives, closed_out, entry_counts, failure_counts, finished_greatest, finished_longer, finished_own, given_low, low_sessions, mark_sessions, marks_greatest, next_after, none_came, opened_note, opening_gives, own_can_count, own_front, own_gives, own_same, still_own}
 pub use Rattle.cj_book.proofs.Pendings.{entry_ready, kept_for_none, marker_ready, none_pending, pending_closed, pending_idle, pending_opened, some_marker, some_prepared}
 pub use Rattle.cj_book.proofs.Recovering.{follows_opening, greatest_within, keeps_opened, none_logged, none_scheduled, recovers_same, recovers_sched}
 pub use Rattle.cj_book.proofs.Scheduling.{begins_full, begins_wanting, begun, marker_begun, marks, scheduled, unbegun, unchecked, unmarked, unprepared}

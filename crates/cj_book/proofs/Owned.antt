@@ -6,15 +6,17 @@ use Rattle.std.proofs.lemmas.List.Elements.{filter_map-append, All-cons, All-con
 use Rattle.std.proofs.lemmas.List.Sums.{sum_by-cons, sum_by-append}
 use Rattle.std.proofs.Math.Nat.{le-max_left}
 use Rattle.std.proofs.lemmas.Result.{on_err_weaker, on_ok_weaker}
-use Rattle.cj_book.proofs.Common.{after_join, book_after, BookError, CanCount, Entry, entry_numbered, eqb-false, Event, greatest_session, HasCountNotes, hearing, HistoryFull, InProgress, IsAdministratorEntry, IsFitEntry, IsLegal, IsOpening, IsSessionEntry, le-leb, legal_fit, log, LogFailed, LogFault, Marker, NoBackend, NoMemory, pass_after, Sched, scheduled_entry, SeatView}
+use Rattle.cj_book.proofs.Common.{book_after, BookError, CanCount, Entry, entry_numbered, eqb-false, Event, greatest_session, HasCountNotes, hearing, HistoryFull, InProgress, IsAdministratorEntry, IsFitEntry, IsLegal, IsOpening, IsErrAnd, IsSessionEntry, le-leb, legal_fit, log, LogError, LogFailed, LogFault, Marker, NoBackend, NoMemory, pass_after, Sched, scheduled_entry, SeatView}
 use Rattle.cj_cluster.specs.History.Transactions.{AreFitBehind}
 use Rattle.cj_cluster.specs.Moves.Cores.{is_entry_of}
 use Rattle.cj_cluster.proofs.Pushed.{log-same, log-sched, prefix_get, prefix_trans}
 use Rattle.cj_board.specs.Counting.{ends_transaction_of, event_count_of, greatest_of, log_failure_session, log_failure_sessions, session_after, sessions_in}
-use Rattle.cj_board.specs.Views.{count_note_of, next_session, pass_without_tokens}
-use Rattle.cj_book.specs.Books.{BookState, with_entry, with_event}
+use Rattle.cj_board.specs.Views.{count_note_of, next_session}
+use Rattle.cj_book.specs.Books.{BookState, with_event}
+use Rattle.cj_book.specs.Events.{entry_finished}
+use Rattle.cj_log.specs.declared.error.LogError.TheVariants as log_errors
 use Rattle.cj_board.specs.Steps.{after_append}
-use Rattle.cj_book.specs.Seated.{event_or_fault, own_book_after, own_opened, own_pass_after, told_book, told_pass, view_after, GivesOwnPassesOnly, SeatedBook}
+use Rattle.cj_book.specs.Seated.{event_or_fault, own_book_after, own_opened, own_pass_after, view_after, SeatedBook}
 use Rattle.cj_book.proofs.Announcing.{failures_same}
 use Rattle.cj_book.proofs.Counted.{opening_unfailed}
 use Rattle.cj_book.proofs.TransactionSteps.{numbered_entry}
@@ -153,13 +155,6 @@ by_result P (Err (HistoryFull n)) ok failed same = same (λ is. absurd (cc is))
 by_result P (Err LogFault) ok failed same = failed refl
 by_result P (Err NoMemory) ok failed same = same (λ is. absurd (cc is))
 
-pub schedules_greatest : (old : BookState) (e : Entry) (result : Result ℕ BookError) (new : BookState) → OnOk result (new ≡ with_entry old e) → (IsErrOf result LogFault → new ≡ with_event old (LogFailed e.session e.seq))
-    → OnErr result (¬ IsErrOf result LogFault → new ≡ old) → new.greatest ≡ old.greatest
-schedules_greatest old e result new ok failed same = by_result (new.greatest ≡ old.greatest) result
-    (on_ok_weaker result (λ is. ap (λ (b : BookState). b.greatest) is) ok)
-    (λ is. ap (λ (b : BookState). b.greatest) (failed is))
-    (on_err_weaker result (λ well no_fault. ap (λ (b : BookState). b.greatest) (well no_fault)) same)
-
 pub noted_own : (own s k : ℕ) → own ≡ s → 0 < s → count_note_of own k ≡ (s, k) ∷ []
 noted_own own s k is some = let other : own ≢ 0 = omega arith in ap (λ b. cond b [] ((own, k) ∷ [])) (ne_eqb own 0 other) ∙ ap (λ z. (z, k) ∷ []) is
 
@@ -199,14 +194,31 @@ module _ (v w : SeatView) where
   own_gives greatest None low gives = gives
   own_gives greatest (Some e) low gives = next_stays greatest v.last_given v.front (e ∷ []) gives (low e refl)
 
--- a call that told the pass before, took it, and put it back
-pub scheduled_own : (v w v1 w1 u x : SeatView) (own after : Option SeatView) (o : Option Event) → v1 ≡ told_book v w → w1 ≡ after_join w (pass_without_tokens v1) → own ≡ Some w1 → u ≡ book_after o own v1 → after ≡ pass_after o own v1 → after ≡ Some x
-    → (u ≡ own_book_after o (told_book v w) (told_pass v w)) × (x ≡ own_pass_after o (told_book v w) (told_pass v w))
-scheduled_own v w v1 w1 u x own after o book pass taken seat passed back =
-    let told : own ≡ Some (told_pass v w) = taken ∙ ap (λ (z : SeatView). Some z) (pass ∙ ap (λ (z : SeatView). after_join w (pass_without_tokens z)) book) in
-    let both : (own, v1) ≡ (Some (told_pass v w), told_book v w) = λ i. (told i, book i) in
-    let same : Some x ≡ Some (own_pass_after o (told_book v w) (told_pass v w)) = sym back ∙ (passed ∙ ap (λ (z : Option SeatView × SeatView). pass_after o z.0 z.1) both) in
-    (seat ∙ ap (λ (z : Option SeatView × SeatView). book_after o z.0 z.1) both, cc same)
+-- a call that took the pass, and put it back
+pub finished_own : (v w u x : SeatView) (own after : Option SeatView) (o : Option Event) → own ≡ Some w → u ≡ book_after o own v → after ≡ pass_after o own v → after ≡ Some x → (u ≡ own_book_after o v w) × (x ≡ own_pass_after o v w)
+finished_own v w u x own after o taken seat passed back =
+    let same : Some x ≡ Some (own_pass_after o v w) = sym back ∙ (passed ∙ ap (λ (z : Option SeatView). pass_after o z v) taken) in
+    (seat ∙ ap (λ (z : Option SeatView). book_after o z v) taken, cc same)
+
+-- a call that was refused before the log was asked brings none
+pub none_came : {T U : Type 0} (r : Result U BookError) (d : BookError) (e fault : Event) → IsErrAnd r (λ x. x ≡ d) → ¬ IsErrOf {T = T} (Err d) LogFault → event_or_fault e fault r ≡ None
+none_came (Ok x) d e fault is well = absurd is
+none_came (Err (InProgress n)) d e fault is well = refl
+none_came (Err NoBackend) d e fault is well = refl
+none_came (Err (HistoryFull n)) d e fault is well = refl
+none_came (Err LogFault) d e fault is well = absurd (well (ap (λ (x : BookError). Err x) (sym is)))
+none_came (Err NoMemory) d e fault is well = refl
+
+pub finished_greatest : (old : BookState) (e : Entry) (appended : Result Unit LogError) (new : BookState) → new ≡ entry_finished old e appended → new.greatest ≡ old.greatest
+finished_greatest old e (Ok u) new is = ap (λ (b : BookState). b.greatest) is
+finished_greatest old e (Err log_errors.Failed) new is = ap (λ (b : BookState). b.greatest) is
+finished_greatest old e (Err log_errors.NoMemory) new is = ap (λ (b : BookState). b.greatest) is
+
+-- what was seen before is a beginning of what is seen then
+pub finished_longer : (old : BookState) (e : Entry) (appended : Result Unit LogError) (new : BookState) → new ≡ entry_finished old e appended → IsPrefix old.history new.history
+finished_longer old e (Ok u) new is = (Sched e ∷ [], sym (ap (λ (b : BookState). b.history) is))
+finished_longer old e (Err log_errors.Failed) new is = (LogFailed e.session e.seq ∷ [], sym (ap (λ (b : BookState). b.history) is))
+finished_longer old e (Err log_errors.NoMemory) new is = ([], append-nil old.history ∙ sym (ap (λ (b : BookState). b.history) is))
 
 pub still_own : {own after : Option SeatView} {w : SeatView} (o : Option Event) (v : SeatView) → own ≡ Some w → after ≡ pass_after o own v → after ≢ None
 still_own {w = w} o v own is none = let some : None ≡ Some (own_pass_after o v w) = sym none ∙ (is ∙ ap (λ (z : Option SeatView). pass_after o z v) own) in absurd (cc some)
@@ -229,14 +241,6 @@ mark_sessions greatest name b result =
     let one : greatest_of (sessions_in (Marker name b ∷ [])) ≡ 0 = refl in
     let other : greatest_of (sessions_in (LogFailed 0 0 ∷ [])) ≡ 0 = refl in
     or_fault (λ x. greatest_of (sessions_in (x ∷ [])) ≤ greatest) (Marker name b) (LogFailed 0 0) result (omega arith) (omega arith)
-
--- what was seen before is a beginning of what is seen then
-pub schedules_longer : (old : BookState) (e : Entry) (result : Result ℕ BookError) (new : BookState) → OnOk result (new ≡ with_entry old e) → (IsErrOf result LogFault → new ≡ with_event old (LogFailed e.session e.seq))
-    → OnErr result (¬ IsErrOf result LogFault → new ≡ old) → IsPrefix old.history new.history
-schedules_longer old e result new ok failed same = by_result (IsPrefix old.history new.history) result
-    (on_ok_weaker result (λ is. (Sched e ∷ [], sym (ap (λ (b : BookState). b.history) is))) ok)
-    (λ is. (LogFailed e.session e.seq ∷ [], sym (ap (λ (b : BookState). b.history) (failed is))))
-    (on_err_weaker result (λ well no_fault. ([], append-nil old.history ∙ sym (ap (λ (b : BookState). b.history) (well no_fault)))) same)
 
 -- a session that was closed has no own pass
 pub closed_out : (s : ℕ) (given : List ℕ) → ¬ Contains (filter (λ t. not (t == s)) given) s

@@ -1,15 +1,14 @@
 -- Sessions that have an own pass are open: so an event of nobody's session, or of an orphan's, is counted by no pass.
-use Rattle.std.proofs.Common.{◌≡◌, ◌≢◌, ℕ, ◌+◌, ◌-◌, ◌<◌, ◌≤◌, ◌==◌, ◌&&◌, ◌||◌, not, Bool, true, false, cond, List, [], ◌∷◌, ◌++◌, length, map, filter, All, Contains, Option, None, Some, slice_get, refl, ap, sym, ◌∙◌, subst, arith, ne_eqb}
-use mathlib.Core.List.{IsPrefix}
+use Rattle.std.proofs.Common.{◌≡◌, ◌≢◌, ℕ, ◌+◌, ◌-◌, ◌<◌, ◌==◌, ◌&&◌, ◌||◌, not, Bool, true, false, cond, List, [], ◌∷◌, ◌++◌, map, filter, All, Contains, Option, None, Some, slice_get, refl, ap, sym, ◌∙◌, subst, arith, ne_eqb}
 use Rattle.std.proofs.lemmas.Bool.{eqb-true}
 use Rattle.std.proofs.lemmas.List.{map-append}
 use Rattle.std.proofs.lemmas.List.Elements.{All-cons, All-contains, All-contains_itself, All-filter, All-weaker}
 use Rattle.std.proofs.lemmas.List.Folds.{list_any-append}
-use Rattle.cj_book.proofs.Common.{and_parts, BookSession, both_ways, Entry, entry_numbered, eq-eqb, Event, event_count_of, has_session, HasCountNotes, is_orphan, is_orphan_of, IsLegal, list_any, log, LogFailed, book_session, next_session, Sched, SeatView, session_number, tx_of, without}
+use Rattle.cj_book.proofs.Common.{and_parts, BookSession, both_ways, Entry, entry_numbered, eq-eqb, has_session, is_orphan, is_orphan_of, IsLegal, list_any, log, LogFailed, book_session, next_session, Sched, SeatView, session_number, tx_of, without}
 use Rattle.cj_cluster.proofs.Pushed.{prefix_get}
 use Rattle.cj_cluster.specs.Moves.Cores.{is_entry_of}
 use Rattle.cj_board.specs.Counting.{ends_transaction_of}
-use Rattle.cj_book.specs.Books.{BookState, IsOpenSession}
+use Rattle.cj_book.specs.Books.{IsOpenSession}
 use Rattle.cj_book.specs.Seated.{IsCounted, OwnersAreOpen, SeatedBook}
 use Rattle.cj_book.proofs.Numbered.{numbers_without}
 use Rattle.cj_book.proofs.Owned.{counts_more, failure_counts}

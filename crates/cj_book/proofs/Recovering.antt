@@ -6,7 +6,7 @@ use Rattle.std.proofs.lemmas.Bool.{eqb-true, both_ways}
 use Rattle.std.proofs.lemmas.List.Elements.{All-nil, All-from_recursion}
 use Rattle.std.proofs.Math.Nat.{le-max_left, le-max_right}
 use Rattle.std.proofs.Math.Seq.{take-length}
-use Rattle.cj_book.proofs.Common.{concerns, Disabled, Enabled, Ended, ended_count, Entry, Event, fold-append, Follows, get_or_from_slice_get, get_seam, greatest_session, has-zero, in_mask, is_enabled, is_free, is_target_at, IsAdministratorEntry, IsAllowedEvent, IsFitEntry, IsKeptSession, IsSessionEntry, items_behind, IsLegal, IsOpening, IsRecovered, KeepsEntries, KeepsTransactions, Layout, legal_fit, legal_prefix, log, log-same, log-sched, LogFailed, LogItem, LogMarker, Marker, markers_of, opened-free, OpensTo, Placement, placement_of, ReadFailed, Recovered, Sched, scheduled_entry, take_whole, transactions_after}
+use Rattle.cj_book.proofs.Common.{concerns, Disabled, Enabled, Ended, ended_count, Entry, Event, fold-append, Follows, get_or_from_slice_get, get_seam, greatest_session, has-zero, in_mask, is_enabled, is_free, is_target_at, IsAdministratorEntry, IsAllowedEvent, IsFitEntry, IsKeptSession, IsSessionEntry, items_behind, IsLegal, IsOpening, IsRecovered, KeepsEntries, KeepsTransactions, Layout, legal_fit, legal_prefix, log, log-same, log-sched, LogFailed, LogItem, Marker, markers_of, opened-free, OpensTo, Placement, placement_of, ReadFailed, Recovered, Sched, scheduled_entry, take_whole, transactions_after}
 use Rattle.cj_recovery.proofs.Longer.{idle_opening}
 use Rattle.cj_book.proofs.Marked.{marked_sched}
 use Rattle.cj_cluster.specs.History.Transactions.{AreFitBehind}

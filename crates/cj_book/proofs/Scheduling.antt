@@ -1,5 +1,5 @@
 -- Why what could come into the history didn't, and what an append that was tried came to.
-use Rattle.std.proofs.Common.{◌≡◌, ◌⊎◌, inl, inr, ℕ, ◌+◌, ◌<◌, ◌≤◌, Bool, true, List, [], ◌∷◌, ◌++◌, length, Option, Result, Ok, Err, OnOk, IsErrOf, refl, ap, sym, ◌∙◌, arith, subst, length-append}
+use Rattle.std.proofs.Common.{◌≡◌, inl, inr, ℕ, ◌+◌, ◌<◌, ◌≤◌, Bool, true, List, [], ◌∷◌, ◌++◌, length, Option, Result, Ok, Err, OnOk, IsErrOf, refl, ap, sym, ◌∙◌, arith, subst, length-append}
 use Rattle.std.specs.Prelude.{◌↔◌, IsErrAnd}
 use Rattle.cj_book.proofs.Common.{Act, BookError, BookState, both_ways, Entry, entry_item, Event, events_left, HistoryFull, hosts_all, InProgress, is_free, IsBeforeOrAfter, items_of, LeavesItems, LeavesOnly, log, log-same, log-sched, LogError, LogFault, LogItem, Marker, marker_item, needs, NoBackend, NoMemory, Placement, placement_at, Refuses, Request, request_of}
 use Rattle.cj_cluster.specs.History.Answering.{HasNoServer, HasServer}
@@ -80,6 +80,9 @@ module _ {T : Type 0} (old : BookState) (a : Act) where
 
 -- ---- a marker begins
 
+has_room : (old : BookState) → 0 < events_left old.history → (n : ℕ) → HasNoRoomForOne old n → ⊥
+has_room old space n p = let none : events_left old.history < 1 = p.full in absurd (omega arith)
+
 module _ {T : Type 0} (old : BookState) where
   pub begins_full : (r : Result T BookError) (d : BookError) → IsErrAnd r (λ x. x ≡ d) → HasRoom {T = Unit} old (Err d) → BeginsMarker old r
   begins_full (Ok x) d is p = absurd is
@@ -94,14 +97,11 @@ module _ {T : Type 0} (old : BookState) where
   begins_full (Err x) LogFault is p = absurd p
   begins_full (Err x) NoMemory is p = absurd p
 
-  has_room : 0 < events_left old.history → (n : ℕ) → HasNoRoomForOne old n → ⊥
-  has_room space n p = let none : events_left old.history < 1 = p.full in absurd (omega arith)
-
   pub begins_wanting : (r : Result T BookError) → IsErrAnd r (λ x. x ≡ NoMemory) → 0 < events_left old.history → BeginsMarker old r
   begins_wanting (Ok x) is space = absurd is
   begins_wanting (Err x) is space = subst (λ (y : BookError). BeginsMarker {T = T} old (Err y)) (sym is) (record {
     space = tt;
-    full = λ m. (λ is. absurd (cc is), λ q. absurd (has_room space m q));
+    full = λ m. (λ is. absurd (cc is), λ q. absurd (has_room old space m q));
     want = tt;
     memory = λ is. space;
   })
@@ -109,7 +109,7 @@ module _ {T : Type 0} (old : BookState) where
   pub marker_begun : (x : T) → 0 < events_left old.history → BeginsMarker old (Ok x)
   marker_begun x space = record {
     space = space;
-    full = λ n. (λ is. absurd (cc is), λ q. absurd (has_room space n q));
+    full = λ n. (λ is. absurd (cc is), λ q. absurd (has_room old space n q));
     want = tt;
     memory = λ is. absurd (cc is);
   }

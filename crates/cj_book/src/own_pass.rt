@@ -1,17 +1,19 @@
 //! Passes at the book: how notes are exchanged, and sessions whose own pass counts their events.
 
-ghost use Rattle.std.specs.Prelude.{ℕ, ◌≡◌, ◌↔◌, ◌+◌, ◌<◌, ◌≤◌, None, true, Contains, IfOk, OnErr, OnOk, IsErrOf};
+ghost use Rattle.std.specs.Prelude.{ℕ, ◌≡◌, ◌↔◌, ◌+◌, ◌<◌, ◌≤◌, None, Some, true, length, Contains, IfOk, OnErr, OnOk, IsErrOf};
 ghost use mathlib.Core.List.{IsPrefix};
 ghost use Rattle.cj_cluster.specs.declared.event.Event.{Event};
 ghost use Rattle.cj_cluster.specs.History.Histories.{is_free, log};
 ghost use Rattle.cj_cluster.specs.History.Legality.{IsFitEntry};
+ghost use Rattle.cj_log.specs.Items.{CanAppend};
+ghost use Rattle.cj_recovery.specs.Openings.{entry_item};
 ghost use Rattle.cj_board.specs.Counting.{event_count_of};
 ghost use Rattle.cj_board.specs.Seats.{board_id, front, pass_board, pass_view, history};
 ghost use Rattle.cj_board.specs.Steps.{after_closing, after_join, after_learning, after_split};
 ghost use Rattle.cj_board.specs.Views.{own_pass_of, pass_of, pass_without_tokens};
 ghost use Rattle.cj_book.specs.BookLogs.{LogFollows};
 ghost use Rattle.cj_book.specs.Books.{with_session, without_session, HasGivenAll};
-ghost use Rattle.cj_book.specs.Events.{Schedules};
+ghost use Rattle.cj_book.specs.Events.{entry_finished, finished_as, BeginsEntry, Schedules};
 ghost use Rattle.cj_book.specs.Seated.{count_after, event_or_fault, own_book_after, own_opened, own_pass_after, told_book, told_pass, GivesOwnPassesOnly};
 
 use crate::book::Book;
@@ -19,6 +21,7 @@ use crate::book_log::BookLog;
 use crate::counter::Counter;
 use crate::error::{BookError, OwnError};
 use cj_board::{Board, Pass};
+use cj_log::{LogError, LogItem};
 use cj_model::{Entry, SESSION_NUMBER_LIMIT};
 use cj_outside::Store;
 
@@ -81,11 +84,102 @@ impl Book {
         ensures given { (self.new.view.given ≡ self.old.view.given) × (self.new.view.last_given ≡ self.old.view.last_given) }
         ensures still_gives { GivesOwnPassesOnly self.new }
     {
-        self.legal();
+        recovery_log.legal();
+        let item = self.begin_own(board, p, &e)?;
+        let appended = recovery_log.append(item);
+        self.finish_told(board, p, e, appended)
+    }
+
+    /// Begins an entry of a session with an own pass, as `begin_entry` does. Also refused, book and pass have each other's notes,
+    /// and the pass has seen the history.
+    pub fn begin_own(
+        &mut self,
+        board: &Board,
+        p: &mut Pass,
+        e: &Entry,
+    ) -> Result<LogItem, BookError>
+        requires board { (self.old.board ≡ board_id board.now) × (pass_board p.old ≡ board_id board.now) }
+        requires pending { self.old.pending ≡ None }
+        requires own { ((pass_view p.old).own_session ≡ e.now.session) × (0 < e.now.session) }
+        requires fit { is_free self.old.state.history ≡ true → IsFitEntry (log self.old.state.history) e.now }
+        requires gives { GivesOwnPassesOnly self.old }
+        ensures begins { BeginsEntry self.old.state e.now.act result }
+        ensures item { IfOk result (λ item. (item ≡ entry_item (length (log self.old.state.history) + 1) e.now) × CanAppend item) }
+        ensures pending { OnOk result (self.new.pending ≡ Some (Event.Sched e.now)) }
+        ensures refused { OnErr result (self.new.pending ≡ None) }
+        ensures state { self.new.state ≡ self.old.state }
+        ensures board { (self.new.board ≡ self.old.board) × (pass_board p.new ≡ pass_board p.old) }
+        ensures seat { self.new.view ≡ told_book self.old.view (pass_view p.old) }
+        ensures pass { pass_view p.new ≡ told_pass self.old.view (pass_view p.old) }
+        ensures counted { event_count_of e.now.session self.old.state.history ≤ (pass_view p.new).count }
+        ensures told { front p.new ≡ self.old.state.history }
+        ensures seen { IsPrefix (front p.old) self.old.state.history }
+        ensures given { e.now.session ≤ self.old.state.greatest }
+        ensures still_gives { GivesOwnPassesOnly self.new }
+    {
         self.tell(board, p);
         board.check_count(p);
+        self.begin_entry(e)
+    }
+
+    /// Ends what `begin_own` began, as `finish_entry` does. The pass counts the event that comes, and has seen the history then.
+    /// Sessions and passes may have come, gone and told the book between the two.
+    pub fn finish_own(
+        &mut self,
+        board: &Board,
+        p: &mut Pass,
+        e: Entry,
+        appended: Result<(), LogError>,
+    ) -> Result<u64, BookError>
+        requires board { (self.old.board ≡ board_id board.now) × (pass_board p.old ≡ board_id board.now) }
+        requires pending { self.old.pending ≡ Some (Event.Sched e) }
+        requires own { ((pass_view p.old).own_session ≡ e.session) × (0 < e.session) }
+        requires gives { GivesOwnPassesOnly self.old }
+        ensures answer { result ≡ finished_as appended (length (log self.old.state.history) + 1) }
+        ensures state { self.new.state ≡ entry_finished self.old.state e appended }
+        ensures board { (self.new.board ≡ self.old.board) × (pass_board p.new ≡ pass_board p.old) }
+        ensures pending { self.new.pending ≡ None }
+        ensures seat { self.new.view ≡ own_book_after (event_or_fault (Event.Sched e) (Event.LogFailed e.session e.seq) result) (told_book self.old.view (pass_view p.old)) (told_pass self.old.view (pass_view p.old)) }
+        ensures pass { pass_view p.new ≡ own_pass_after (event_or_fault (Event.Sched e) (Event.LogFailed e.session e.seq) result) (told_book self.old.view (pass_view p.old)) (told_pass self.old.view (pass_view p.old)) }
+        ensures own { (pass_view p.new).own_session ≡ e.session }
+        ensures count { (pass_view p.new).count ≡ count_after (event_or_fault (Event.Sched e) (Event.LogFailed e.session e.seq) result) (pass_view p.old).count }
+        ensures counted { event_count_of e.session self.new.state.history ≤ (pass_view p.new).count }
+        ensures told { front p.new ≡ self.new.state.history }
+        ensures seen { IsPrefix (front p.old) self.old.state.history × IsPrefix (front p.old) (front p.new) }
+        ensures given { (self.new.view.given ≡ self.old.view.given) × (self.new.view.last_given ≡ self.old.view.last_given) }
+        ensures still_gives { GivesOwnPassesOnly self.new }
+    {
+        self.tell(board, p);
+        self.finish_told(board, p, e, appended)
+    }
+
+    /// The same, with a pass that has seen the history.
+    fn finish_told(
+        &mut self,
+        board: &Board,
+        p: &mut Pass,
+        e: Entry,
+        appended: Result<(), LogError>,
+    ) -> Result<u64, BookError>
+        requires board { (self.old.board ≡ board_id board.now) × (pass_board p.old ≡ board_id board.now) }
+        requires pending { self.old.pending ≡ Some (Event.Sched e) }
+        requires own { ((pass_view p.old).own_session ≡ e.session) × (0 < e.session) }
+        requires told { front p.old ≡ self.old.state.history }
+        requires given { e.session ≤ self.old.state.greatest }
+        ensures answer { result ≡ finished_as appended (length (log self.old.state.history) + 1) }
+        ensures state { self.new.state ≡ entry_finished self.old.state e appended }
+        ensures board { (self.new.board ≡ self.old.board) × (pass_board p.new ≡ pass_board p.old) }
+        ensures pending { self.new.pending ≡ None }
+        ensures seat { self.new.view ≡ own_book_after (event_or_fault (Event.Sched e) (Event.LogFailed e.session e.seq) result) self.old.view (pass_view p.old) }
+        ensures pass { pass_view p.new ≡ own_pass_after (event_or_fault (Event.Sched e) (Event.LogFailed e.session e.seq) result) self.old.view (pass_view p.old) }
+        ensures counted { event_count_of e.session self.new.state.history ≤ (pass_view p.new).count }
+        ensures told { front p.new ≡ self.new.state.history }
+        ensures still_gives { GivesOwnPassesOnly self.old → GivesOwnPassesOnly self.new }
+    {
+        self.legal();
+        board.check_count(p);
         let mut counter = Counter::taken(board, p);
-        let result = self.schedule_counted(recovery_log, board, &mut counter, e);
+        let result = self.finish_entry(board, &mut counter, e, appended);
         counter.put_back(p);
         board.check_count(p);
         self.legal();

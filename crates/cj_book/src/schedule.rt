@@ -82,37 +82,10 @@ impl Book {
         ensures still_gives { GivesOwnPassesOnly self.old → GivesOwnPassesOnly self.new }
     {
         self.legal();
-        self.schedule_counted(recovery_log, board, &mut Counter::Nobody, e)
-    }
-
-    /// The same, where the session may have an own pass, which counts the event that comes.
-    pub(crate) fn schedule_counted<S: Store>(
-        &mut self,
-        recovery_log: &mut BookLog<S>,
-        board: &Board,
-        counter: &mut Counter,
-        e: Entry,
-    ) -> Result<u64, BookError>
-        requires board { self.old.board ≡ board_id board.now }
-        requires pending { self.old.pending ≡ None }
-        requires follows { LogFollows S.tells S.faults recovery_log.old self.old.state.history }
-        requires on { IsOn (board_id board.now) counter.old }
-        requires fit { is_free self.old.state.history ≡ true → IsFitEntry (log self.old.state.history) e }
-        requires given { IsOfGiven self.old.state e }
-        requires counted { CanCount self.old (own_view counter.old) (Event.Sched e) × CanCount self.old (own_view counter.old) (Event.LogFailed e.session e.seq) }
-        ensures state { Schedules S.tells S.faults S.moment S.since S.may self.old.state recovery_log.old.log e result self.new.state recovery_log.new.log }
-        ensures follows { LogFollows S.tells S.faults recovery_log.new self.new.state.history }
-        ensures board { self.new.board ≡ self.old.board }
-        ensures pending { self.new.pending ≡ self.old.pending }
-        ensures opening { recovery_log.new.faults_at_opening ≡ recovery_log.old.faults_at_opening }
-        ensures seat { self.new.view ≡ book_after (event_or_fault (Event.Sched e) (Event.LogFailed e.session e.seq) result) (own_view counter.old) self.old.view }
-        ensures on { IsOn (board_id board.now) counter.new }
-        ensures own { own_view counter.new ≡ pass_after (event_or_fault (Event.Sched e) (Event.LogFailed e.session e.seq) result) (own_view counter.old) self.old.view }
-    {
         recovery_log.legal();
         let item = self.begin_entry(&e)?;
         let appended = recovery_log.append(item);
-        self.finish_entry(board, counter, e, appended)
+        self.finish_entry(board, &mut Counter::Nobody, e, appended)
     }
 
     /// Begins an entry, which is then pending, and answers its item for the log. All memory is taken that its end needs

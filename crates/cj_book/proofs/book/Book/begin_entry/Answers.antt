@@ -1,4 +1,4 @@
-use Rattle.std.proofs.Common.{◌<◌, ap, length, arith}
+use Rattle.std.proofs.Common.{ap, length, arith}
 use Rattle.cj_book.proofs.Cited.{begun, kept_for_none, unchecked, unprepared}
 use Rattle.cj_book.proofs.book.Book.begin_entry.Goals as goal
 

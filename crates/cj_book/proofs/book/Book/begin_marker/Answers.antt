@@ -1,4 +1,4 @@
-use Rattle.std.proofs.Common.{◌<◌, ap, length, arith, ◌∙◌}
+use Rattle.std.proofs.Common.{ap, length, arith, ◌∙◌}
 use Rattle.cj_book.proofs.Cited.{LogMarker, begins_full, begins_wanting, kept_for_none, marker_begun}
 use Rattle.cj_book.proofs.book.Book.begin_marker.Goals as goal
 

@@ -1,4 +1,4 @@
-use Rattle.std.proofs.Common.{◌≡◌, ◌==◌, ℕ, List, All, Contains, filter, not, ap, sym, ◌∙◌, subst, refl}
+use Rattle.std.proofs.Common.{◌==◌, ℕ, List, All, Contains, filter, not, ap, sym, subst, refl}
 use mathlib.Core.List.{IsPrefix}
 use Rattle.cj_book.proofs.Cited.{SeatView, book_view, closed_out, follows_closed, history, numbers_without, pass_view, pending_closed, session_number}
 use Rattle.cj_book.proofs.Owners.{numbers_of, open_taken}

@@ -1,4 +1,4 @@
-use Rattle.std.proofs.Common.{◌≡◌, ◌≢◌, ◌<◌, arith, ℕ, ◌++◌, ◌∷◌, [], List, map, None, Option, refl, ap, sym, subst, ◌∙◌}
+use Rattle.std.proofs.Common.{◌≡◌, ◌≢◌, arith, ℕ, ◌++◌, ◌∷◌, [], List, map, None, Option, refl, ap, sym, subst, ◌∙◌}
 use Rattle.cj_book.proofs.Cited.{IsLegal, LogMarker, Marker, Pending, SeatView, after_append, book_view, follows_log_failed, follows_marker, history, kept_log_failed, kept_marker, marker_behind, marker_ready, no_counts, session_number, some_marker}
 use Rattle.cj_book.specs.Pendings.{marker_of}
 use Rattle.cj_book.proofs.book.Book.finish_marker.Goals as goal

@@ -1,5 +1,5 @@
-use Rattle.std.proofs.Common.{◌≡◌, ap, sym, ◌∙◌}
-use Rattle.cj_book.proofs.Cited.{LogMarker, has_named, history, list_any}
+use Rattle.std.proofs.Common.{ap, sym, ◌∙◌}
+use Rattle.cj_book.proofs.Cited.{has_named, history, list_any}
 use Rattle.cj_book.proofs.Marked.{has_name}
 use Rattle.cj_book.proofs.book.Book.is_taken.Goals as goal
 

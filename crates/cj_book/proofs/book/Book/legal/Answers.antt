@@ -1,5 +1,6 @@
 use Rattle.std.proofs.Common.{◌≡◌, ◌≢◌, ◌≤◌, true, None, map, subst}
-use Rattle.cj_book.proofs.Cited.{Entry, IsOfGiven, IsOfKnown, SeatedBook, given_known, given_session, history, is_free, pending_idle, session_number}
+use Rattle.cj_book.proofs.Common.{is_free}
+use Rattle.cj_book.proofs.Cited.{Entry, IsOfGiven, IsOfKnown, SeatedBook, given_known, given_session, history, pending_idle, session_number}
 use Rattle.cj_book.proofs.book.Book.legal.Goals as goal
 
 pub returns-clause-given : goal.returns-clause-given

@@ -1,8 +1,14 @@
 use Rattle.std.proofs.Common.{◌≡◌, ℕ, ◌+◌, length, ap, sym, ◌∙◌, subst}
-use Rattle.cj_book.proofs.Cited.{BookState, LogFailed, LogFollows, Marker, SeatView, came_gives, event_or_fault, log, mark_sessions, marker_followed, marks, marks_greatest, next_session, unmarked}
+use Rattle.cj_book.proofs.Cited.{BookState, HasCountNotes, LogFailed, LogFollows, Marker, SeatView, came_gives, event_or_fault, log, mark_sessions, marker_followed, marks, marks_greatest, next_session, unmarked}
 use Rattle.cj_book.specs.Events.{finished_as, marker_finished}
 use Rattle.cj_book.specs.Seated.{view_after}
 use Rattle.cj_book.proofs.book.Book.mark.Goals as goal
+
+-- the book is where it was
+pub finish_marker-requires-clause-counted : goal.finish_marker-requires-clause-counted
+finish_marker-requires-clause-counted g c =
+    let same = c.in_ok-item.ensures in
+    subst (λ (x : BookState × SeatView). HasCountNotes x.1.given x.0.history x.1.count_notes (LogFailed 0 0)) (λ i. (sym same.state i, sym same.seat.1 i)) c.requires.counted
 
 pub returns-in_err-item-clause-state : goal.returns-in_err-item-clause-state
 returns-in_err-item-clause-state g c =

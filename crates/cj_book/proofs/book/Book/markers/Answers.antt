@@ -1,4 +1,4 @@
-use Rattle.std.proofs.Common.{◌≡◌, ◌∙◌}
+use Rattle.std.proofs.Common.{◌∙◌}
 use Rattle.cj_book.proofs.book.Book.markers.Goals as goal
 
 pub returns : goal.returns

@@ -3,8 +3,8 @@ use Rattle.cj_book.proofs.Cited.{BadEntry, Begins, HasBadEntry, LogItem, OpensTo
 use Rattle.std.proofs.lemmas.List.Elements.{All-nil}
 use Rattle.cj_book.proofs.book.Book.open.Goals as goal
 
-pub invariant_of-result : goal.invariant_of-result
-invariant_of-result g c =
+pub invariant_of-book : goal.invariant_of-book
+invariant_of-book g c =
     let layout = c.args.parts.placement in
     let faults = g.S.Store.faults in
     let items = c.in-Ok.opened.1 in

@@ -1,4 +1,4 @@
-use Rattle.std.proofs.Common.{◌+◌, ◌<◌, arith, rules, sym}
+use Rattle.std.proofs.Common.{◌+◌, arith, rules, sym}
 use Rattle.cj_book.proofs.Cited.{book_view, history, opened_note, pending_opened}
 use Rattle.cj_book.proofs.Following.{follows_opened}
 use Rattle.cj_book.proofs.Owners.{open_own_more}

@@ -1,4 +1,4 @@
-use Rattle.std.proofs.Common.{◌≡◌, refl, sym, subst}
+use Rattle.std.proofs.Common.{refl, sym, subst}
 use Rattle.cj_book.proofs.Cited.{BookLogState, LogFollows, appended_entry, appended_fault, appended_marker, appended_want}
 use Rattle.cj_book.proofs.book_log.BookLog.append.Goals as goal
 

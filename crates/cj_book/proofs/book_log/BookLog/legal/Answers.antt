@@ -1,4 +1,4 @@
-use Rattle.std.proofs.Common.{◌≡◌, sym, subst}
+use Rattle.std.proofs.Common.{sym, subst}
 use Rattle.cj_book.proofs.Cited.{BookLogState, IsKeptIn, LeavesItems, LogFollows, items_of, kept_in, shut_where}
 use Rattle.cj_book.proofs.book_log.BookLog.legal.Goals as goal
 
