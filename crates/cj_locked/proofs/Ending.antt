@@ -1,7 +1,9 @@
 -- The end of an entry, by what its writer knows and what was tallied.
-use Rattle.std.proofs.Common.{◌≡◌, ◌⊎◌, inl, inr, ⊎_elim, ℕ, ◌+◌, ◌*◌, ◌-◌, ◌<◌, ◌≤◌, ◌&&◌, ◌||◌, not, Bool, true, false, List, [], ◌∷◌, ◌++◌, length, Contains, Option, None, Some, slice_get, Ok, IsSome, refl, ap, sym, ◌∙◌, subst, arith, length-append, eqb-true}
+use Rattle.std.proofs.Common.{◌≡◌, ◌⊎◌, inl, inr, ⊎_elim, ℕ, ◌+◌, ◌*◌, ◌-◌, ◌^◌, ◌<◌, ◌≤◌, ◌&&◌, ◌||◌, not, bit_and, Bool, true, false, List, [], ◌∷◌, ◌++◌, length, Contains, Option, None, Some, slice_get, Ok, IsSome, refl, ap, sym, ◌∙◌, subst, arith, length-append, eqb-true}
 use mathlib.Core.List.{IsPrefix}
-use Rattle.std.proofs.lemmas.Bool.{and_parts, both_ways}
+use Rattle.std.specs.Int.Bits.{or_zero_r}
+use Rattle.std.proofs.Math.Bool.{or-false}
+use Rattle.std.proofs.lemmas.Bool.{and_parts}
 use Rattle.std.proofs.lemmas.List.Elements.{Contains-append_left, Contains-append_right}
 use Rattle.cj_model.specs.declared.request.Entry.{Entry}
 use Rattle.cj_model.specs.declared.answer.Outcome.{Outcome}
@@ -9,19 +11,22 @@ use Rattle.cj_model.specs.declared.answer.Reply.{Reply}
 use Rattle.cj_model.specs.Cluster.Masks.{in_mask}
 use Rattle.cj_model.specs.Cluster.Placements.{Placement, concerns}
 use Rattle.cj_model.specs.Sql.PlainRequests.{request_of}
+use Rattle.cj_model.proofs.MaskBits.{has_without}
+use Rattle.cj_model.proofs.Masks.{has-zero}
 use Rattle.cj_cluster.specs.declared.event.Event.{Event}
 use Rattle.cj_cluster.specs.declared.event.Event.TheVariants.{Sched, Ended, ReadFailed, LogFailed, Disabled, Enabled, Marker}
 use Rattle.cj_cluster.specs.History.Answering.{AnswersEntry, HasServer, IsTarget}
 use Rattle.cj_cluster.specs.History.Histories.{ended_count, is_enabled, is_free, log, open_entry_of, outcome_of}
 use Rattle.cj_cluster.specs.History.Legality.{AreFitMasks}
-use Rattle.cj_cluster.proofs.Pushed.{done-same, enabled-push, free-ended, free-sched, get_seam, log-prefix, log-same, log-sched, opened-sched, prefix_get, prefix_trans}
+use Rattle.cj_cluster.proofs.Pushed.{done-same, enabled-push, free-ended, free-sched, get_seam, log-prefix, log-sched, opened-sched, prefix_get, prefix_trans}
 use Rattle.cj_board.specs.declared.view.SeatView.{SeatView}
 use Rattle.cj_board.specs.Points.{fault_tokens_of}
 use Rattle.cj_board.specs.Steps.{after_learning, HasFaultTokens, HasPositionNotes}
 use Rattle.cj_board.specs.Views.{pass_of}
 use Rattle.cj_board.proofs.FaultPoint.{tokens-append}
 use Rattle.cj_book.specs.BookLogs.{BookLogState, LogFollows}
-use Rattle.cj_book.specs.Books.{is_target_at}
+use Rattle.cj_book.specs.Books.{is_target_at, BookState}
+use Rattle.cj_book.specs.Seated.{SeatedBook}
 use Rattle.cj_book.proofs.LogFollowing.{log_more}
 use Rattle.cj_replica.specs.declared.replica.Caught.TheVariants as caught
 use Rattle.cj_replica.proofs.Longer.{outcome_longer}
@@ -47,7 +52,7 @@ module _ (p : Placement) (G : List Event) (n : ℕ) (e : Entry) (at : IsSchedule
   pub number_some : 0 < n
   number_some = let k : n ≡ length (log at.m) + 1 = at.number in omega arith
 
-  pub scheduled_on : (H : List Event) → IsPrefix G H → IsScheduledIn p H n e
+  abbrev pub scheduled_on : (H : List Event) → IsPrefix G H → IsScheduledIn p H n e
   scheduled_on H longer = record { m = at.m; was_free = at.was_free; served = at.served; space = at.space; number = at.number; next = prefix_trans (at.m ++ Sched e ∷ []) G H at.next longer }
 
 pub holds_on : {S : Type 0} (tells : Bool) (count : S → ℕ) (p : Placement) (G H : List Event) (n : ℕ) (e : Entry) (amount : ℕ) (l : BookLogState S) → IsPrefix G H → HoldsEntry tells count p G n e amount l → HoldsEntry tells count p H n e amount l
@@ -75,7 +80,28 @@ same_amount g h pending longer same =
     let same' : 3 * turn_events_of g + 0 ≡ 3 * turn_events_of h + pending_weight pending = same in
     (omega arith, no_weight pending (omega arith))
 
+-- ---- what the ledger counts
+
+-- a book of which the history and what is pending are as before
+pub same_counted : (x y : SeatedBook) → y.state ≡ x.state → y.pending ≡ x.pending → turn_amount y.state.history y.pending ≡ turn_amount x.state.history x.pending
+same_counted x y state pending = ap (λ (z : BookState × Option Event). turn_amount z.0.history z.1) (λ i. (state i, pending i))
+
+-- the end of an entry counts three
+pub amount_ended : (h : List Event) (pending : Option Event) → pending ≡ None → (failed starved : ℕ) (H : List Event) (pending' : Option Event) → H ≡ h ++ Ended failed starved ∷ [] → pending' ≡ None → turn_amount h pending + 3 ≡ turn_amount H pending'
+amount_ended h pending none failed starved H pending' now none' =
+    let push : turn_events_of (h ++ Ended failed starved ∷ []) ≡ turn_events_of h + 1 = turn_events_push h (Ended failed starved) in
+    let its : turn_events_of H ≡ turn_events_of h + 1 = ap turn_events_of now ∙ push in
+    let a : pending_weight pending ≡ 0 = ap pending_weight none in
+    let b : pending_weight pending' ≡ 0 = ap pending_weight none' in
+    omega (arith, its, a, b)
+
 -- ---- masks
+
+-- a mask without the backends of another
+pub has_less : (m k b : ℕ) → m < 2 ^ 32 → k < 2 ^ 32 → in_mask (bit_and m (4294967295 - k)) b ≡ (in_mask m b && not (in_mask k b))
+has_less m k b fits fits' =
+    ap (λ x. in_mask (bit_and m (4294967295 - x)) b) (sym (or_zero_r k))
+    ∙ (has_without m k 0 b fits fits' (omega arith) ∙ ap (λ x. in_mask m b && not x) (ap (λ x. in_mask k b || x) (has-zero b) ∙ or-false (in_mask k b)))
 
 and_given : (x y : Bool) → x ≡ true → y ≡ true → (x && y) ≡ true
 and_given x y a b = rw (a, b) refl
@@ -121,11 +147,12 @@ module _ (h : List Event) (enabled : ℕ) (mask : (b : ℕ) → in_mask enabled 
       (λ (other : (in_mask settled.failed b ≡ true) ⊎ (in_mask settled.starved b ≡ true)). absurd (spared (in_mask settled.failed b) (in_mask settled.starved b) parts.1 other))
       (all_settled b parts.0)
     where
+      one : (f s : Bool) → (f ≡ true) ⊎ (s ≡ true) → (f || s) ≡ true
+      one true s other = refl
+      one false s other = ⊎_elim (λ (is : false ≡ true). absurd (cc is)) (λ (is : s ≡ true). is) other
+
       spared : (f s : Bool) → not (f || s) ≡ true → (f ≡ true) ⊎ (s ≡ true) → ⊥
-      spared true s no or = cc no
-      spared false true no or = cc no
-      spared false false no (inl is) = cc is
-      spared false false no (inr is) = cc is
+      spared f s spares other = let same : false ≡ true = sym (ap not (one f s other)) ∙ spares in cc same
 
   -- ---- what the book's seat knows, once it learned of the pass
 

@@ -4,3 +4,4 @@ pub mod Passes
 pub mod Taking
 pub mod Tallying
 pub mod Turns
+pub mod Writing

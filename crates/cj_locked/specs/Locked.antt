@@ -1,5 +1,5 @@
 -- What contracts see of a book behind its lock.
-use Rattle.std.specs.Prelude.{◌≡◌, ℕ, Bool, true, List, IfSome}
+use Rattle.std.specs.Prelude.{◌≡◌, ℕ, Bool, true, IfSome}
 use Rattle.std.specs.declared.option.Option.{Option}
 use Rattle.std.specs.declared.option.Option.TheVariants.{None}
 use Rattle.atomic_table.specs.Seated.{TableId}

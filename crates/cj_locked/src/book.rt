@@ -135,6 +135,8 @@ impl<J: Naming, S: Store + Drop> LockedBook<J, S> {
         requires noted { NotesTally (pass_view pass.old.seat) entry.number tally }
         ensures seen { HasSeenMore (pass_view pass.old.seat) (pass_view pass.new.seat) }
         ensures legal { IsLegal (front pass.new.seat) }
+        ensures told { front pass.new.seat ≡ self.new.book.state.history }
+        ensures back { is_none self.new.log ≡ false }
         ensures ended { (tells : Bool) → IsTallyOf tells (placement_of J.layout) (log (front pass.old.seat)) (entry.number - 1) e.now tally → EndsSince tells (placement_of J.layout) (front pass.old.seat) entry.number e.now result (front pass.new.seat) }
     {
         let OpenEntry { mut turn, .. } = entry;
@@ -143,8 +145,7 @@ impl<J: Naming, S: Store + Drop> LockedBook<J, S> {
         turn.audit(&mut self.ledger);
         let tally = settled(tally, self.book.enabled());
         let reply = tally.reply(self.book.targets());
-        self.book
-            .end(&board.board, tally.failed, tally.starved);
+        self.book.end(&board.board, tally.failed, tally.starved);
         turn.count(&mut self.ledger, 3);
         self.turn = Some(turn);
         self.book.legal();
