@@ -34,7 +34,7 @@ use Rattle.cj_tally.specs.declared.tally.Tally.{Tally}
 use Rattle.cj_tally.specs.Tallies.{AnswersByTally, AreTargets, HaveReported, IsRightOutcome, IsTallyOf}
 use Rattle.cj_locked.specs.Taking.{NotesTally}
 use Rattle.cj_locked.specs.Turns.{pending_weight, turn_amount, turn_events_of}
-use Rattle.cj_locked.specs.Writing.{EndsSince, HoldsEntry, IsScheduledIn, Settles}
+use Rattle.cj_locked.specs.Writing.{EndsSince, HoldsEntry, IsScheduledIn, SettlesTally}
 use Rattle.cj_locked.proofs.Following.{follows_reads}
 use Rattle.cj_locked.proofs.Turns.{free_stays, open_entry_stays, turn_events_more, turn_events_push, turn_stays, TurnStays}
 
@@ -106,7 +106,7 @@ has_less m k b fits fits' =
 and_given : (x y : Bool) → x ≡ true → y ≡ true → (x && y) ≡ true
 and_given x y a b = rw (a, b) refl
 
-module _ (h : List Event) (enabled : ℕ) (mask : (b : ℕ) → in_mask enabled b ≡ is_enabled h b) (tally settled : Tally) (settles : Settles enabled tally settled) where
+module _ (h : List Event) (enabled : ℕ) (mask : (b : ℕ) → in_mask enabled b ≡ is_enabled h b) (tally settled : Tally) (settles : SettlesTally enabled tally settled) where
   failed_parts : (b : ℕ) → in_mask settled.failed b ≡ true → (in_mask enabled b ≡ true) × (in_mask tally.failed b ≡ true)
   failed_parts b on =
       let all = and_parts (in_mask enabled b && in_mask tally.failed b) (not (in_mask tally.taken b)) (sym (settles.failed b) ∙ on) in
@@ -218,7 +218,7 @@ module _ {S : Type 0} (tells : Bool) (count : S → ℕ) (p : Placement) (F h : 
   pub end_idle : (failed starved : ℕ) → is_free (h ++ Ended failed starved ∷ []) ≡ true
   end_idle failed starved = (let a = end_last.0 in let b = end_last.1 in free-ended h failed starved end_open (omega (arith, a, b)) (omega (arith, a, b)))
 
-  module _ (enabled : ℕ) (mask : (b : ℕ) → in_mask enabled b ≡ is_enabled h b) (tally settled : Tally) (settles : Settles enabled tally settled)
+  module _ (enabled : ℕ) (mask : (b : ℕ) → in_mask enabled b ≡ is_enabled h b) (tally settled : Tally) (settles : SettlesTally enabled tally settled)
       (targets : ℕ) (are : (b : ℕ) → in_mask targets b ≡ is_target_at p h (open_entry_of h) b) (reply : Reply) (replies : AnswersByTally settled targets reply) (H : List Event) (is : H ≡ h ++ Ended settled.failed settled.starved ∷ []) where
     target_is : (b : ℕ) → in_mask targets b ≡ (is_enabled h b && concerns p b (log h) e.tx e.act)
     target_is b = are b ∙ ap (λ (o : Option Entry). is_target_at p h o b) end_entry

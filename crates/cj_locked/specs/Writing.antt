@@ -1,5 +1,5 @@
 -- What becomes of an entry that a session writes, from what its pass had seen to what it has seen then.
-use Rattle.std.specs.Prelude.{◌≡◌, ℕ, ◌+◌, ◌-◌, ◌<◌, ◌≤◌, ◌&&◌, not, Bool, true, List, [], ◌∷◌, ◌++◌, length, slice_get, All}
+use Rattle.std.specs.Prelude.{◌≡◌, ℕ, ◌+◌, ◌-◌, ◌<◌, ◌≤◌, ◌&&◌, not, Bool, true, List, [], ◌∷◌, ◌++◌, length, slice_get, All, Result, Ok, Err}
 use Rattle.std.specs.declared.option.Option.TheVariants.{None, Some}
 use mathlib.Core.List.{IsPrefix}
 use Rattle.cj_model.specs.declared.request.Entry.{Entry}
@@ -19,6 +19,11 @@ use Rattle.cj_cluster.specs.Moves.Runs.{call_of_entry}
 use Rattle.cj_board.specs.Counting.{event_count_of}
 use Rattle.cj_book.specs.declared.error.BookError.{BookError}
 use Rattle.cj_book.specs.declared.error.BookError.TheVariants.{InProgress, NoBackend, HistoryFull, LogFault, NoMemory}
+use Rattle.cj_log.specs.declared.error.LogError.{LogError}
+use Rattle.cj_log.specs.declared.error.LogError.TheVariants as log_errors
+use Rattle.cj_log.specs.declared.item.LogItem.{LogItem}
+use Rattle.cj_log.specs.Items.{CanAppend}
+use Rattle.cj_recovery.specs.Openings.{entry_item}
 use Rattle.cj_book.specs.BookLogs.{BookLogState, LogFollows}
 use Rattle.cj_tally.specs.declared.tally.Tally.{Tally}
 use Rattle.cj_locked.specs.Turns.{turn_amount}
@@ -33,6 +38,31 @@ pub record IsScheduledIn (p : Placement) (G : List Event) (n : ℕ) (e : Entry) 
   pub space : 3 ≤ events_left m
   pub number : n ≡ length (log m) + 1
   pub next : IsPrefix (m ++ Sched e ∷ []) G
+
+-- Who began an entry at history m, where it could come, has the turn: the turn's amount has the entry as pending, and the log
+-- follows that history. G goes on from there.
+pub record HoldsPending {S : Type 0} (tells : Bool) (count : S → ℕ) (p : Placement) (G : List Event) (e : Entry) (amount : ℕ) (l : BookLogState S) : Type 0 where
+  pub m : List Event
+  pub was_free : is_free m ≡ true
+  pub served : HasServer p m (request_of e.act)
+  pub space : 3 ≤ events_left m
+  pub seen : IsPrefix m G
+  pub turn : amount ≡ turn_amount m (Some (Sched e))
+  pub follows : LogFollows tells count l m
+
+-- it was begun now, since the session had seen F, and nothing else of the session came since; this is its item for the log
+pub record BeginsSince {S : Type 0} (tells : Bool) (count : S → ℕ) (p : Placement) (F G : List Event) (e : Entry) (amount : ℕ) (l : BookLogState S) (item : LogItem) : Type 0 where
+  pub holds : HoldsPending tells count p G e amount l
+  pub longer : IsPrefix F holds.m
+  pub quiet : event_count_of e.session holds.m ≡ event_count_of e.session F
+  pub is : G ≡ holds.m
+  pub its : (item ≡ entry_item (length (log holds.m) + 1) e) × CanAppend item
+
+-- the log was asked to append the item of entry e behind history h, and follows the history in which the event of that has come
+abbrev pub FollowsAppend : {S : Type 0} → Bool → (S → ℕ) → BookLogState S → List Event → Entry → Result Unit LogError → Type 0
+FollowsAppend tells count l h e (Ok u) = LogFollows tells count l (h ++ Sched e ∷ [])
+FollowsAppend tells count l h e (Err log_errors.Failed) = LogFollows tells count l (h ++ LogFailed e.session e.seq ∷ [])
+FollowsAppend tells count l h e (Err log_errors.NoMemory) = LogFollows tells count l h
 
 -- it was scheduled now, since the session had seen F, and nothing else of the session came since
 pub record SchedulesSince (p : Placement) (F G : List Event) (n : ℕ) (e : Entry) : Type 0 where
@@ -76,7 +106,7 @@ refusal_for NoMemory = refusal_of_code NO_MEMORY
 
 -- The tally, with masks that fit the enabled backends: one that took the entry is in no other mask. One that did not failed,
 -- or ran out of memory where no failure was reported.
-pub record Settles (enabled : ℕ) (tally settled : Tally) : Type 0 where
+pub record SettlesTally (enabled : ℕ) (tally settled : Tally) : Type 0 where
   pub taken : settled.taken ≡ tally.taken
   pub first_outcome : settled.first_outcome ≡ tally.first_outcome
   pub failed : (b : ℕ) → in_mask settled.failed b ≡ (in_mask enabled b && in_mask tally.failed b && not (in_mask tally.taken b))

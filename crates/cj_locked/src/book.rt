@@ -1,10 +1,11 @@
 //! The book behind its lock.
 
-ghost use Rattle.std.specs.Prelude.{◌≡◌, ◌-◌, ◌&&◌, not, ℕ, Bool, true, false, length, None, Some, IsNone, is_none};
+ghost use Rattle.std.specs.Prelude.{◌≡◌, ◌-◌, ◌<◌, IfOk, IfErr, OnErr, ◌&&◌, not, ℕ, Bool, true, false, length, None, Some, IsNone, is_none};
 ghost use Rattle.cj_model.specs.Cluster.Masks.{in_mask};
 ghost use Rattle.cj_cluster.specs.History.Histories.{is_free, log};
-ghost use Rattle.cj_cluster.specs.History.Legality.{IsLegal};
+ghost use Rattle.cj_cluster.specs.History.Legality.{IsFitEntry, IsLegal};
 ghost use Rattle.cj_place.specs.Layouts.{placement_of};
+ghost use Rattle.cj_board.specs.Counting.{event_count_of};
 ghost use Rattle.cj_board.specs.Seats.{front, pass_view};
 ghost use Rattle.cj_book.specs.BookLogs.{LogFollows};
 ghost use Rattle.cj_book.specs.Seated.{GivesOwnPassesOnly};
@@ -12,12 +13,13 @@ ghost use Rattle.cj_tally.specs.Tallies.{IsTallyOf};
 ghost use Rattle.cj_locked.specs.Passes.{HasNotedMore, HasSeenMore};
 ghost use Rattle.cj_locked.specs.Taking.{NotesTally};
 ghost use Rattle.cj_locked.specs.Turns.{turn_events_of};
-ghost use Rattle.cj_locked.specs.Writing.{EndsSince, HoldsEntry, Settles};
+ghost use Rattle.cj_locked.specs.Writing.{BeginsSince, EndsSince, HoldsEntry, RefusesSince, SettlesTally};
 
 use crate::naming::{Naming, TurnLedger};
 use crate::pass::{NamedBoard, Pass};
 use crate::turn::Turn;
-use cj_book::Book;
+use cj_book::{Book, BookError};
+use cj_log::LogItem;
 use cj_model::{Entry, Reply};
 use cj_outside::Store;
 use cj_tally::Tally;
@@ -49,6 +51,14 @@ impl<J: Naming, S: Store> Model for LockedBook<J, S> {
     ghost invariant = { λ x. IsLocked J.board J.layout S.tells S.faults x.ledger.total (record { book = x.book; log = option_map (λ t. t.log) x.turn }) };
 }
 
+/// What the writer of an entry has while the entry is on its way into the recovery log.
+#[derive(Drop)]
+pub struct Begun<J: Naming, S: Store> {
+    /// The entry's item, which the log is to append.
+    pub item: LogItem,
+    pub turn: Turn<J, S>,
+}
+
 /// What the writer of an entry has while it is open.
 #[derive(Drop)]
 pub struct OpenEntry<J: Naming, S: Store> {
@@ -67,7 +77,7 @@ fn without(mask: u32, other: u32) -> u32
 
 /// The tally with masks that fit the enabled backends, each of which is in one of the three.
 fn settled(tally: Tally, enabled: u32) -> Tally
-    ensures { Settles enabled tally result }
+    ensures { SettlesTally enabled tally result }
 {
     Tally {
         taken: tally.taken,
@@ -120,6 +130,68 @@ impl<J: Naming, S: Store + Drop> LockedBook<J, S> {
     {
         self.book.legal();
         self.book.tell(&board.board, &mut pass.seat);
+    }
+
+    /// Begins an entry of the session whose own pass this is. The session has the turn then, and the item that the log is to
+    /// append. Refused, the turn stays.
+    pub fn begin(
+        &mut self,
+        board: &NamedBoard<J>,
+        pass: &mut Pass<J>,
+        e: &Entry,
+    ) -> Result<Begun<J, S>, BookError>
+        requires vacant { is_none self.old.log ≡ false }
+        requires own { ((pass_view pass.old.seat).own_session ≡ e.now.session) × (0 < e.now.session) }
+        requires counted { event_count_of e.now.session (front pass.old.seat) ≡ (pass_view pass.old.seat).count }
+        requires fit { IsFitEntry (log (front pass.old.seat)) e.now }
+        ensures ok { IfOk result (λ begun. BeginsSince S.tells S.faults (placement_of J.layout) (front pass.old.seat) (front pass.new.seat) e.now begun.turn.share.amount begun.turn.log begun.item) }
+        ensures err { IfErr result (RefusesSince (placement_of J.layout) (front pass.old.seat) (front pass.new.seat) e.now) }
+        ensures own { (pass_view pass.new.seat).own_session ≡ e.now.session }
+        ensures counted { event_count_of e.now.session (front pass.new.seat) ≡ (pass_view pass.new.seat).count }
+        ensures legal { IsLegal (front pass.new.seat) }
+        ensures told { front pass.new.seat ≡ self.new.book.state.history }
+        ensures state { self.new.book.state ≡ self.old.book.state }
+        ensures back { OnErr result (is_none self.new.log ≡ false) }
+    {
+        self.tell(board, pass);
+        board.check_count(pass);
+        self.begin_told(board, pass, e)
+    }
+
+    /// The same, with a pass that has seen the history.
+    fn begin_told(
+        &mut self,
+        board: &NamedBoard<J>,
+        pass: &mut Pass<J>,
+        e: &Entry,
+    ) -> Result<Begun<J, S>, BookError>
+        requires vacant { is_none self.old.log ≡ false }
+        requires own { ((pass_view pass.old.seat).own_session ≡ e.now.session) × (0 < e.now.session) }
+        requires told { front pass.old.seat ≡ self.old.book.state.history }
+        requires fit { IsFitEntry (log (front pass.old.seat)) e.now }
+        ensures ok { IfOk result (λ begun. BeginsSince S.tells S.faults (placement_of J.layout) (front pass.old.seat) (front pass.new.seat) e.now begun.turn.share.amount begun.turn.log begun.item) }
+        ensures err { IfErr result (RefusesSince (placement_of J.layout) (front pass.old.seat) (front pass.new.seat) e.now) }
+        ensures own { (pass_view pass.new.seat).own_session ≡ (pass_view pass.old.seat).own_session }
+        ensures count { (pass_view pass.new.seat).count ≡ (pass_view pass.old.seat).count }
+        ensures same { front pass.new.seat ≡ front pass.old.seat }
+        ensures told { front pass.new.seat ≡ self.new.book.state.history }
+        ensures state { self.new.book.state ≡ self.old.book.state }
+        ensures back { OnErr result (is_none self.new.log ≡ false) }
+    {
+        let Some(mut turn) = self.turn.take() else {
+            unreachable!()
+        };
+        turn.audit(&mut self.ledger);
+        match self.book.begin_own(&board.board, &mut pass.seat, e) {
+            Ok(item) => {
+                turn.count(&mut self.ledger, 1);
+                Ok(Begun { item, turn })
+            }
+            Err(error) => {
+                self.turn = Some(turn);
+                Err(error)
+            }
+        }
     }
 
     /// Ends the open entry, whose writer this is, by what was tallied of it, and answers it. The turn is there again.

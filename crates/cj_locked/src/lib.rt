@@ -2,10 +2,11 @@
 //!
 //! Each call is a `&mut self` method with its whole clause, and this crate knows of no thread: a driver locks, makes
 //! one call, and has its clause without what is about `self`. A `Pass` carries on what was seen (`cj_board`).
-//! The turn is a token: only who has it brings events into the history, but for failures in reads.
-//! `J` names the board, the layout and the turn's ledger, so that all values of a cluster have it in their types.
-//! To change: a call at a cell goes into `cell.rt`. Clauses are about passes alone, so that they hold above a lock.
-//! To read: `specs/Passes` and `specs/Turns`. Proofs begin in `proofs/Passes` (what a pass knows more).
+//! The `Turn` is a token: only who has it brings events into the history, but for failures in reads. With it goes the
+//! recovery log, so that an append holds no lock. `J` names board, layout and the turn's ledger in all types.
+//! Promised: a write is a turn of its session (`WritesTurn`), from `begin` and `end` by `proofs/Writing`.
+//! To change: a call at a cell goes into `cell.rt`, one at the book into `book.rt`. Clauses are about passes.
+//! To read: `specs/Turns`, `specs/Passes`, `specs/Writing`. Proofs begin in `proofs/Turns` (what stays with the turn).
 #![tactic(auto)]
 
 mod book;
@@ -14,7 +15,7 @@ mod naming;
 mod pass;
 mod turn;
 
-pub use book::{LockedBook, OpenEntry};
+pub use book::{Begun, LockedBook, OpenEntry};
 pub use cell::LockedCell;
 pub use naming::{Naming, TurnLedger};
 pub use pass::{NamedBoard, Pass};

@@ -1,9 +1,20 @@
 //! The turn: who has it alone may bring an event, but for a failure in a read.
 
-ghost use Rattle.std.specs.Prelude.{◌≡◌, ◌+◌};
+ghost use Rattle.std.specs.Prelude.{◌≡◌, ◌+◌, List, length, true, OnOk, IsErrOf};
+ghost use Rattle.cj_model.specs.declared.request.Entry.{Entry};
+ghost use Rattle.cj_cluster.specs.declared.event.Event.{Event};
+ghost use Rattle.cj_cluster.specs.History.Histories.{log};
+ghost use Rattle.cj_outside.specs.Causes.{CountsFault};
+ghost use Rattle.cj_outside.specs.Stores.{LeavesOnly};
+ghost use Rattle.cj_log.specs.Items.{CanAppend};
+ghost use Rattle.cj_log.specs.Logs.{Adds, IsBeforeOrAfter, LeavesItems, Refuses};
+ghost use Rattle.cj_recovery.specs.Openings as openings;
+ghost use Rattle.cj_book.specs.BookLogs.{LogFollows};
+ghost use Rattle.cj_locked.specs.Writing.{FollowsAppend};
 
 use crate::naming::{Naming, TurnLedger};
 use cj_book::BookLog;
+use cj_log::{LogError, LogItem};
 use cj_outside::Store;
 use std::sync::ledger::{Book, Share};
 
@@ -25,6 +36,23 @@ impl<J: Naming, S: Store> Turn<J, S> {
         ensures { (result.share ≡ share) × (result.log ≡ log) }
     {
         Turn { share, log }
+    }
+
+    /// Appends the item of an entry or a marker that was begun to the log, which needs no lock. An error leaves the items as
+    /// they were.
+    ///
+    /// `NoMemory` comes only before the gate of the item is opened. After `Failed` a stop may leave the refused item too.
+    pub fn append(&mut self, item: LogItem) -> Result<(), LogError>
+        requires { CanAppend item }
+        ensures amount { self.new.share.amount ≡ self.old.share.amount }
+        ensures items { S.tells ≡ true → Adds self.old.log.log.items item self.new.log.log.items result }
+        ensures cause { CountsFault (IsErrOf result LogError.Failed) (S.faults self.old.log.log.store) (S.faults self.new.log.log.store) }
+        ensures any_moment { S.tells ≡ true → LeavesOnly S.moment S.since self.old.log.log.store self.new.log.log.store (IsBeforeOrAfter self.old.log.log item) }
+        ensures refused { S.tells ≡ true → Refuses self.old.log.log item self.new.log.log result }
+        ensures safe { S.tells ≡ true → OnOk result (LeavesItems (S.may self.new.log.log.store) self.new.log.log.items) }
+        ensures follows { (h : List Event) (e : Entry) → LogFollows S.tells S.faults self.old.log h → item ≡ openings.entry_item (length (log h) + 1) e → FollowsAppend S.tells S.faults self.new.log h e result }
+    {
+        self.log.append(item)
     }
 
     /// Shows that the ledger's total is the turn's amount.
