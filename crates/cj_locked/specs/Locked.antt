@@ -20,7 +20,8 @@ pub record IsVacant {S : Type 0} (tells : Bool) (count : S → ℕ) (book : Seat
   pub unpending : book.pending ≡ None
   pub follows : LogFollows tells count l book.state.history
 
--- it is the book of this board and this layout, each of whose sessions was opened with an own pass; the ledger's total is the turn's amount
+-- it is the book of this board and this layout, each of whose sessions was opened with an own pass; the ledger's
+-- total is the turn's amount
 pub record IsLocked {S : Type 0} (board : TableId) (layout : Layout) (tells : Bool) (count : S → ℕ) (total : ℕ) (x : LockedState S) : Type 0 where
   pub on : x.book.board ≡ board
   pub laid : x.book.state.layout ≡ layout

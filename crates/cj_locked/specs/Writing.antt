@@ -39,8 +39,8 @@ pub record IsScheduledIn (p : Placement) (G : List Event) (n : ℕ) (e : Entry) 
   pub number : n ≡ length (log m) + 1
   pub next : IsPrefix (m ++ Sched e ∷ []) G
 
--- Who began an entry at history m, where it could come, has the turn: the turn's amount has the entry as pending, and the log
--- follows that history. G goes on from there.
+-- Who began an entry at history m, where it could come, has the turn: the turn's amount has the entry as pending,
+-- and the log follows that history. G goes on from there.
 pub record HoldsPending {S : Type 0} (tells : Bool) (count : S → ℕ) (p : Placement) (G : List Event) (e : Entry) (amount : ℕ) (l : BookLogState S) : Type 0 where
   pub m : List Event
   pub was_free : is_free m ≡ true
@@ -50,7 +50,8 @@ pub record HoldsPending {S : Type 0} (tells : Bool) (count : S → ℕ) (p : Pla
   pub turn : amount ≡ turn_amount m (Some (Sched e))
   pub follows : LogFollows tells count l m
 
--- it was begun now, since the session had seen F, and nothing else of the session came since; this is its item for the log
+-- it was begun now, since the session had seen F, and nothing else of the session came since; this is its item for
+-- the log
 pub record BeginsSince {S : Type 0} (tells : Bool) (count : S → ℕ) (p : Placement) (F G : List Event) (e : Entry) (amount : ℕ) (l : BookLogState S) (item : LogItem) : Type 0 where
   pub holds : HoldsPending tells count p G e amount l
   pub longer : IsPrefix F holds.m
@@ -58,7 +59,8 @@ pub record BeginsSince {S : Type 0} (tells : Bool) (count : S → ℕ) (p : Plac
   pub is : G ≡ holds.m
   pub its : (item ≡ entry_item (length (log holds.m) + 1) e) × CanAppend item
 
--- the log was asked to append the item of entry e behind history h, and follows the history in which the event of that has come
+-- the log was asked to append the item of entry e behind history h, and follows the history in which the event of
+-- that has come
 abbrev pub FollowsAppend : {S : Type 0} → Bool → (S → ℕ) → BookLogState S → List Event → Entry → Result Unit LogError → Type 0
 FollowsAppend tells count l h e (Ok u) = LogFollows tells count l (h ++ Sched e ∷ [])
 FollowsAppend tells count l h e (Err log_errors.Failed) = LogFollows tells count l (h ++ LogFailed e.session e.seq ∷ [])
@@ -104,8 +106,8 @@ refusal_for NoMemory = refusal_of_code NO_MEMORY
 
 -- ---- its end
 
--- The tally, with masks that fit the enabled backends: one that took the entry is in no other mask. One that did not failed,
--- or ran out of memory where no failure was reported.
+-- The tally, with masks that fit the enabled backends: one that took the entry is in no other mask. One that did
+-- not failed, or ran out of memory where no failure was reported.
 pub record SettlesTally (enabled : ℕ) (tally settled : Tally) : Type 0 where
   pub taken : settled.taken ≡ tally.taken
   pub first_outcome : settled.first_outcome ≡ tally.first_outcome

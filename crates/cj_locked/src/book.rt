@@ -132,8 +132,8 @@ impl<J: Naming, S: Store + Drop> LockedBook<J, S> {
         self.book.tell(&board.board, &mut pass.seat);
     }
 
-    /// Begins an entry of the session whose own pass this is. The session has the turn then, and the item that the log is to
-    /// append. Refused, the turn stays.
+    /// Begins an entry of the session whose own pass this is. The session has the turn then, and the item that the
+    /// log is to append. Refused, the turn stays.
     pub fn begin(
         &mut self,
         board: &NamedBoard<J>,

@@ -38,10 +38,11 @@ impl<J: Naming, S: Store> Turn<J, S> {
         Turn { share, log }
     }
 
-    /// Appends the item of an entry or a marker that was begun to the log, which needs no lock. An error leaves the items as
-    /// they were.
+    /// Appends the item of an entry or a marker that was begun to the log, which needs no lock. An error leaves the
+    /// items as they were.
     ///
-    /// `NoMemory` comes only before the gate of the item is opened. After `Failed` a stop may leave the refused item too.
+    /// `NoMemory` comes only before the gate of the item is opened. After `Failed` a stop may leave the refused
+    /// item too.
     pub fn append(&mut self, item: LogItem) -> Result<(), LogError>
         requires { CanAppend item }
         ensures amount { self.new.share.amount ≡ self.old.share.amount }
