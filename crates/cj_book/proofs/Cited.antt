@@ -3,7 +3,7 @@ pub use Rattle.cj_board.specs.Seats.{book_board}
 pub use Rattle.cj_board.specs.Steps.{HasPositionNotes, after_learning}
 pub use Rattle.cj_board.specs.Views.{pass_of}
 pub use Rattle.cj_book.proofs.Announcing.{given_after, no_counts, one_token, opening_comes, opening_seen, seen_after}
-pub use Rattle.cj_book.proofs.Common.{BookLogState, BookSession, BookState, IsPendingEntry, KeepsPending, LogFollows, Pending, Prepared, TransactionList, bare_book, pending_event, CanCount, Disabled, Enabled, Ended, Entry, Event, HasBadEntry, HasCountNotes, HasCountedLogFaults, IsBeforeOrAfter, IsKeptIn, IsLegal, IsOfGiven, IsOfKnown, IsOpening, IsIndexOf, IsRecovered, KeepsTransactions, LeavesItems, LeavesOnly, LogError, LogFailed, LogItem, LogMarker, Marker, OpenTransaction, OpensTo, ReadFailed, Recovered, Refuses, Sched, SeatView, SeatedBook, Starts, after_append, after_join, and_parts, answers_always, book_after, book_view, both_ways, bytes_eq, entry_item, event_count_of, event_or_fault, has_session, has_table, has_written, hearing, list_any, history, hosts, hosts_all, in_mask, is_enabled, is_written_in, items_of, last_write_failed, legal_fit, legal_prefix, legal_push, log, log-same, log-sched, marker_item, markers_of, needs, next_session, numbered, own_view, pass_after, pass_view, pass_without_tokens, placement_at, placement_of, request_of, session_number, sessions_after, told_book, told_pass, transactions_after, tx_number, tx_of}
+pub use Rattle.cj_book.proofs.Common.{BookLogState, BookSession, BookState, KeepsPending, LogFollows, Pending, Prepared, TransactionList, CanCount, Disabled, Enabled, Ended, Entry, Event, HasBadEntry, HasCountNotes, HasCountedLogFaults, IsBeforeOrAfter, IsKeptIn, IsLegal, IsOfGiven, IsOfKnown, IsOpening, IsIndexOf, IsRecovered, KeepsTransactions, LeavesItems, LeavesOnly, LogError, LogFailed, LogItem, LogMarker, Marker, OpenTransaction, OpensTo, ReadFailed, Recovered, Refuses, Sched, SeatView, SeatedBook, Starts, after_append, after_join, and_parts, answers_always, book_after, book_view, both_ways, bytes_eq, entry_item, event_count_of, event_or_fault, has_session, has_table, has_written, hearing, list_any, history, hosts, hosts_all, in_mask, is_enabled, is_written_in, items_of, last_write_failed, legal_fit, legal_prefix, legal_push, log, log-same, log-sched, marker_item, markers_of, needs, next_session, numbered, own_view, pass_after, pass_view, pass_without_tokens, placement_at, placement_of, request_of, session_number, sessions_after, told_book, told_pass, transactions_after, tx_number, tx_of}
 pub use Rattle.cj_book.proofs.Counted.{opening_counted}
 pub use Rattle.cj_book.proofs.Following.{follows_closed, follows_log_failed, follows_marker, follows_sched, given_known, given_session, tx_open}
 pub use Rattle.cj_book.proofs.Keeping.{kept_disabled, kept_enabled, kept_ended, kept_log_failed, kept_marker, kept_read_failed, kept_sched, marker_behind}
@@ -12,7 +12,7 @@ pub use Rattle.cj_book.proofs.Logged.{gate_shut, kept_in, shut_where}
 pub use Rattle.cj_book.proofs.Marked.{has_named, marked_more, marked_same}
 pub use Rattle.cj_book.proofs.Numbered.{changed, changed_rises, found_among, numbers_without, removed, removed_rises, rises_push, searched, unchanged, unremoved}
 pub use Rattle.cj_book.proofs.Owned.{came_gives, closed_out, entry_counts, failure_counts, finished_greatest, finished_longer, finished_own, given_low, low_sessions, mark_sessions, marks_greatest, next_after, none_came, opened_note, opening_gives, own_can_count, own_front, own_gives, own_same, still_own}
-pub use Rattle.cj_book.proofs.Pendings.{entry_ready, kept_for_none, marker_ready, none_pending, pending_closed, pending_idle, pending_opened, some_marker, some_prepared}
+pub use Rattle.cj_book.proofs.Pendings.{entry_ready, kept_for_none, marker_ready, pending_idle}
 pub use Rattle.cj_book.proofs.Recovering.{follows_opening, greatest_within, keeps_opened, none_logged, none_scheduled, recovers_same, recovers_sched}
 pub use Rattle.cj_book.proofs.Scheduling.{begins_full, begins_wanting, begun, marker_begun, marks, scheduled, unbegun, unchecked, unmarked, unprepared}
 pub use Rattle.cj_book.proofs.Serving.{candidates_more, mask_below, served_by_some, servers_of}

@@ -11,7 +11,7 @@ pub use Rattle.cj_book.specs.Found.{IsRecovered}
 pub use Rattle.cj_book.specs.Kept.{Follows, IsKeptSession, KeepsEntries, KeepsTransactions}
 pub use Rattle.cj_book.specs.Lists.{IsIndexOf, TransactionList, book_session, numbered, session_number, sessions_after, transactions_after, tx_number, without}
 pub use Rattle.cj_book.specs.Seated.{SeatedBook, event_or_fault, told_book, told_pass}
-pub use Rattle.cj_book.specs.Pendings.{bare_book, pending_event, IsPendingEntry, IsPendingMarker, KeepsPending}
+pub use Rattle.cj_book.specs.Pendings.{AwaitsEntry, AwaitsMarker, KeepsPending}
 pub use Rattle.cj_book.specs.Starts.{Starts, greatest_session}
 pub use Rattle.cj_book.specs.Touching.{has_table, is_written_in}
 pub use Rattle.cj_book.specs.declared.error.BookError.{BookError}

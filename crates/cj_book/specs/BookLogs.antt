@@ -13,11 +13,13 @@ pub record BookLogState (S : Type 0) : Type 0 where
   pub log : LogState S
   pub faults_at_opening : ℕ
 
--- while the count of the log's store rose from `before` to `now`, it failed no more often than that; or the count stands at its last value
+-- while the count of the log's store rose from `before` to `now`, it failed no more often than that; or the count
+-- stands at its last value
 abbrev pub HasCountedLogFaults : List Event → ℕ → ℕ → Type 0
 HasCountedLogFaults h before now = (length (log_failure_sessions h) + before ≤ now) ⊎ (now ≡ 2 ^ 64 - 1)
 
--- The log follows the history: its items are the history's entries and markers. Its store has counted each failure that the history tells of.
+-- The log follows the history: its items are the history's entries and markers. Its store has counted each failure
+-- that the history tells of.
 pub record LogFollows {S : Type 0} (tells : Bool) (count : S → ℕ) (l : BookLogState S) (h : List Event) : Type 0 where
   pub logged : tells ≡ true → items_of h ≡ l.log.items
   -- the gate behind the items is torn only behind a write that failed

@@ -53,10 +53,11 @@ with_event b e = record b { history = b.history ++ e ∷ [] }
 abbrev pub with_entry : BookState → Entry → BookState
 with_entry b e = record (with_event b (Sched e)) { cache = without_touched (log b.history) e b.cache }
 
--- what is prepared for an entry that may come next: the backends that it concerns, and exactly the tables that it touches
-pub record IsPrepared (p : Placement) (h : List Event) (e : Entry) (prepared : Prepared) : Type 0 where
-  pub hosts : (b : ℕ) → in_mask prepared.hosts b ≡ concerns p b (log h) e.tx e.act
-  pub tables : (table : List ℕ) → has_table prepared.tables table ≡ touches_behind (log h) e.tx e.act table
+-- what is prepared for an entry that may come behind these: the backends that it concerns, and exactly the tables that
+-- it touches
+pub record IsPrepared (p : Placement) (entries : List Entry) (e : Entry) (prepared : Prepared) : Type 0 where
+  pub hosts : (b : ℕ) → in_mask prepared.hosts b ≡ concerns p b entries e.tx e.act
+  pub tables : (table : List ℕ) → has_table prepared.tables table ≡ touches_behind entries e.tx e.act table
 
 -- ---- the recovery log
 

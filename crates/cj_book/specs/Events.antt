@@ -24,7 +24,8 @@ pub record AppendsEvent {T : Type 0} (old : BookState) (e : Event) (result : Res
   pub want : IfErr result IsFull
   pub err : OnErr result (new ≡ old)
 
--- The entry is scheduled, with its item in the log, or is refused for the first reason against it. Where the log's store failed, an event of that comes.
+-- The entry is scheduled, with its item in the log, or is refused for the first reason against it. Where the log's
+-- store failed, an event of that comes.
 pub record Schedules {S : Type 0} (tells : Bool) (faults moment : S → ℕ) (since : S → ℕ → List ℕ → Type 0) (may : S → List ℕ → Type 0) (old : BookState) (before : LogState S) (e : Entry) (result : Result ℕ BookError) (new : BookState) (after : LogState S) : Type 0 where
   pub ok : OnOk result (new ≡ with_entry old e)
   pub number : IfOk result (λ n. n ≡ length (log new.history))

@@ -84,12 +84,3 @@ transactions_after ts n hosts e act.Abort = without tx_number e.tx ts
 pub record TransactionList : Type 0 where
   pub list : List OpenTransaction
   pub places : ℕ
-
--- there is a place for the transaction that the act begins
-abbrev pub HasPlace : Act → ℕ → Type 0
-HasPlace act.Begin places = 0 < places
-HasPlace (act.Write w) places = Unit {0}
-HasPlace (act.Create c) places = Unit {0}
-HasPlace (act.Drop table) places = Unit {0}
-HasPlace act.Commit places = Unit {0}
-HasPlace act.Abort places = Unit {0}

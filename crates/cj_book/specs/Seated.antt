@@ -9,14 +9,16 @@ use Rattle.cj_board.specs.Steps.{HasPositionNotes, HasFaultTokens, HasCountNotes
 use Rattle.cj_board.specs.Views.{next_session, own_pass_of, pass_of, pass_without_tokens}
 use Rattle.cj_book.specs.declared.error.BookError.{BookError}
 use Rattle.cj_book.specs.declared.error.BookError.TheVariants.{InProgress, NoBackend, HistoryFull, LogFault, NoMemory}
+use Rattle.cj_book.specs.declared.pending.Pending.{Pending}
 use Rattle.cj_book.specs.Books.{BookState, IsOpenSession}
 
--- A book: what follows from its history, of which board its seat is, and what the seat knows, which has the history in front. Beside it, the event that comes once its item stands in the recovery log, where one is pending.
+-- A book: what follows from its history, of which board its seat is, and what the seat knows, which has the history in
+-- front. Beside it, whether an entry or a marker is on its way into the recovery log, where one is.
 pub record SeatedBook : Type 0 where
   pub state : BookState
   pub board : TableId
   pub view : SeatView
-  pub pending : Option Event
+  pub pending : Option Pending
 
 -- the book stands at the same seat, and has heard and told nothing
 abbrev pub HasSameSeat : SeatedBook → SeatedBook → Type 0

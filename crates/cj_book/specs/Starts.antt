@@ -19,7 +19,8 @@ use Rattle.cj_book.specs.declared.error.StartError.TheVariants.{StoreFault, BadR
 abbrev pub greatest_session : List Entry → ℕ
 greatest_session entries = fold (λ n (e : Entry). max n e.session) 0 entries
 
--- The book of a log that was just opened: its history is the one that its entries and markers open with, and no session is open. Session numbers go on above the greatest in the log.
+-- The book of a log that was just opened: its history is the one that its entries and markers open with, and no
+-- session is open. Session numbers go on above the greatest in the log.
 pub record IsStarted {S : Type 0} (placement : Layout) (balancer : Balance) (answers : CacheState) (book : BookState) (l : LogState S) : Type 0 where
   pub layout : book.layout ≡ placement
   pub balance : book.balance ≡ balancer

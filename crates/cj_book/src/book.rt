@@ -1,9 +1,9 @@
 //! The type `Book`: its fields, its view and invariant for contracts, and how it is opened.
 
-ghost use Rattle.std.specs.Prelude.{◌≡◌, ◌≢◌, ◌+◌, ◌-◌, ◌*◌, ◌≤◌, None, true, [], length, IfOk};
+ghost use Rattle.std.specs.Prelude.{◌≡◌, ◌≢◌, ◌+◌, ◌-◌, ◌*◌, ◌≤◌, None, Some, true, [], length, IfOk};
 ghost use Rattle.cj_model.specs.declared.limits.TheConstants.{EVENT_LIMIT, SESSION_NUMBER_LIMIT};
 ghost use Rattle.cj_model.specs.declared.request.Entry.{Entry};
-ghost use Rattle.cj_cluster.specs.History.Histories.{ended_count, is_free, log};
+ghost use Rattle.cj_cluster.specs.History.Histories.{ended_count, events_left, is_free, log};
 ghost use Rattle.cj_cluster.specs.History.Legality.{IsLegal};
 ghost use Rattle.cj_outside.specs.Stores.{Only};
 ghost use Rattle.cj_board.specs.Seats.{board_id, book_board, book_view};
@@ -11,6 +11,7 @@ ghost use Rattle.cj_book.specs.BookLogs.{opened_state, LogFollows};
 ghost use Rattle.cj_book.specs.Books.{IsOfGiven, IsOfKnown};
 ghost use Rattle.cj_book.specs.Found.{start_error_of, entry_error_of};
 ghost use Rattle.cj_book.specs.Seated.{GivesOwnPassesOnly, OwnersAreOpen};
+ghost use Rattle.cj_book.specs.declared.pending.Pending.TheVariants as pending;
 ghost use Rattle.cj_book.specs.Starts.{CountsStartFault, IsStarted, Starts};
 
 use crate::book_log::BookLog;
@@ -43,11 +44,11 @@ pub struct BookParts {
 
 /// The log of a cluster, and what follows from its history.
 ///
-/// The history is what the book's seat at the board has seen, and no list of events is kept: each event comes to the board in the
-/// call that brings it. A mask has bit b for backend b. Entries are numbered from 1.
+/// The history is what the book's seat at the board has seen, and no list of events is kept: each event comes to the
+/// board in the call that brings it. A mask has bit b for backend b. Entries are numbered from 1.
 ///
-/// The recovery log is beside it (`BookLog`). An entry or a marker is pending while its item is on its way into the log. Then no
-/// other event comes. Reads go on.
+/// The recovery log is beside it (`BookLog`). An entry or a marker is pending while its item is on its way into the
+/// log. Then no other event comes. Reads go on.
 #[derive(Drop)]
 pub struct Book {
     pub(crate) alloc: Global,
@@ -67,7 +68,7 @@ pub struct Book {
     pub(crate) transactions: OpenTransactions,
     /// The markers of the history.
     pub(crate) markers: Vec<LogMarker>,
-    /// The entry or marker whose item is on its way into the log.
+    /// What is on its way into the log, an entry or a marker. Its writer has what is prepared for it.
     pub(crate) pending: Option<Pending>,
     pub(crate) seat: BookSeat,
 }
@@ -77,7 +78,7 @@ impl Model for Book {
     ghost use Rattle.cj_board.specs.Seats.{book_board, book_view};
     ghost use Rattle.cj_book.specs.Kept.{IsKeptBook};
     ghost use Rattle.cj_book.specs.Lists.{session_number};
-    ghost use Rattle.cj_book.specs.Pendings.{pending_event, KeepsPending};
+    ghost use Rattle.cj_book.specs.Pendings.{KeepsPending};
     ghost use Rattle.cj_book.specs.Seated.{SeatedBook};
 
     ghost Value = { SeatedBook };
@@ -91,11 +92,11 @@ impl Model for Book {
       state = record { layout = book.placement; history = (book_view book.seat).front; sessions = map session_number book.sessions; greatest = book.greatest; balance = book.balancer; cache = book.cache };
       board = book_board book.seat;
       view = book_view book.seat;
-      pending = pending_event book.pending;
+      pending = book.pending;
     } };
 
     ghost invariant = { λ book. IsKeptBook book.placement (book_view book.seat).front book.entries.items book.done book.enabled book.greatest book.targets book.sessions book.transactions.list book.markers.items (book_view book.seat).given
-        × KeepsPending book.placement (book_view book.seat).front (map session_number book.sessions) book.greatest (vec_capacity book.entries - length book.entries.items) (vec_capacity book.markers - length book.markers.items) book.transactions.places book.pending };
+        × KeepsPending (book_view book.seat).front (vec_capacity book.entries - length book.entries.items) (vec_capacity book.markers - length book.markers.items) book.transactions.places book.pending };
 }
 
 /// Returns the book's error for a refusal of the log's records.
@@ -120,11 +121,11 @@ fn entry_error(error: OpeningError) -> StartError
 }
 
 impl Book {
-    /// Opens the book of the log in a store, which is begun where the store is new, at a seat that has seen nothing. What it finds
-    /// comes to the board. The log is beside the book, and follows its history.
+    /// Opens the book of the log in a store, which is begun where the store is new, at a seat that has seen nothing.
+    /// What it finds comes to the board. The log is beside the book, and follows its history.
     ///
-    /// The items of the log are read first (`BadRecord`), and then the history that they open with (`BadEntry`). Refused, it hands
-    /// the store back, in which nothing was written but the bytes of a new file.
+    /// The items of the log are read first (`BadRecord`), and then the history that they open with (`BadEntry`).
+    /// Refused, it hands the store back, in which nothing was written but the bytes of a new file.
     pub fn open<S: Store>(
         alloc: Global,
         parts: BookParts,
@@ -180,9 +181,9 @@ impl Book {
         }
     }
 
-    /// Shows what holds of all books: the history is one that can be, the seat has seen it, and the numbers of open sessions were
-    /// given. At most one entry is open, and its end has room in the history. A session that has an own pass is open. While an entry
-    /// or a marker is pending, no entry is open.
+    /// Shows what holds of all books: the history is one that can be, the seat has seen it, and the numbers of open
+    /// sessions were given. At most one entry is open, and its end has room in the history. A session that has an own
+    /// pass is open. While an entry or a marker is pending, no entry is open, and an entry has room until it ends.
     pub fn legal(&self)
         ensures legal { IsLegal self.now.state.history }
         ensures front { self.now.view.front ≡ self.now.state.history }
@@ -193,6 +194,7 @@ impl Book {
         ensures within { self.now.state.greatest ≤ SESSION_NUMBER_LIMIT }
         ensures owned { OwnersAreOpen self.now }
         ensures pending { self.now.pending ≢ None → is_free self.now.state.history ≡ true }
+        ensures space { self.now.pending ≡ Some pending.Entry → 3 ≤ events_left self.now.state.history }
     {
         let _ = &self.seat;
     }

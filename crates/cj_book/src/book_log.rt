@@ -38,8 +38,9 @@ impl<S: Store> Model for BookLog<S> {
 }
 
 impl<S: Store> BookLog<S> {
-    /// Shows what holds of the log of a book, which follows its history: the bytes of the log, and what a stop leaves of them, keep
-    /// the history's entries and markers. Behind a write that failed they may keep the item that was refused too.
+    /// Shows what holds of the log of a book, which follows its history: the bytes of the log, and what a stop leaves
+    /// of them, keep the history's entries and markers. Behind a write that failed they may keep the item that was
+    /// refused too.
     pub fn legal(&self)
         ensures kept { (h : List Event) → LogFollows S.tells S.faults self.now h → S.tells ≡ true → IsKeptIn (S.held self.now.log.store) h }
         ensures safe { (h : List Event) → LogFollows S.tells S.faults self.now h → S.tells ≡ true → last_write_failed h ≡ false → LeavesItems (S.may self.now.log.store) (items_of h) }
@@ -50,7 +51,8 @@ impl<S: Store> BookLog<S> {
 
     /// Appends the item of an entry or a marker that is pending. An error leaves the items as they were.
     ///
-    /// `NoMemory` comes only before the gate of the item is opened. After `Failed` a stop may leave the refused item too.
+    /// `NoMemory` comes only before the gate of the item is opened. After `Failed` a stop may leave the refused item
+    /// too.
     pub fn append(&mut self, item: LogItem) -> Result<(), LogError>
         requires { CanAppend item }
         ensures items { S.tells ≡ true → Adds self.old.log.items item self.new.log.items result }

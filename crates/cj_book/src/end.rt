@@ -1,4 +1,5 @@
-//! How an entry ends, and which backends are enabled. None of these events comes while an entry or a marker is pending.
+//! How an entry ends, and which backends are enabled. None of these events comes while an entry or a marker is
+//! pending.
 
 ghost use Rattle.std.specs.Prelude.{◌≡◌, ◌+◌, ◌<◌, None, true, false, length, Contains};
 ghost use Rattle.cj_cluster.specs.declared.event.Event.{Event};

@@ -7,7 +7,7 @@
 //! They name each refusal and what it leaves (`specs/Books`, `specs/Events`, `specs/Seated`).
 //! `legal` shows what holds of every book. The invariant is `IsKeptBook` in `specs/Kept`.
 //! A new event concerns `Books`, `Events` and a file like `end.rt`. A new reason to refuse concerns `error.rt`.
-//! In `enter` (`schedule.rt`, `marker.rt`) no call may fail after the append to the log.
+//! No call may fail behind the append to the log: `finish_entry` (`schedule.rt`), `finish_marker` (`marker.rt`).
 //! Proofs begin in `proofs/Following` and `proofs/Keeping` (a book with one more event).
 //! `proofs/Recovering` and `proofs/Starting` treat opening, `proofs/Owned` and `proofs/Owners` own passes.
 #![tactic(auto)]
@@ -32,3 +32,4 @@ pub use book::{Book, BookParts};
 pub use book_log::BookLog;
 pub use counter::Counter;
 pub use error::{BookError, OwnError, SessionsFull, StartError};
+pub use pending::{BegunEntry, Pending, Prepared};

@@ -7,19 +7,19 @@ ghost use Rattle.cj_log.specs.Items.{CanAppend};
 ghost use Rattle.cj_recovery.specs.Openings as openings;
 ghost use Rattle.cj_board.specs.Seats.{board_id};
 ghost use Rattle.cj_book.specs.BookLogs.{LogFollows};
+ghost use Rattle.cj_book.specs.declared.pending.Pending.TheVariants as pending;
 ghost use Rattle.cj_book.specs.Events.{finished_as, marker_finished, BeginsMarker, MarksCheckpoint};
 ghost use Rattle.cj_book.specs.Seated.{event_or_fault, view_after, GivesOwnPassesOnly, IsCounted};
 
 use crate::book::Book;
 use crate::book_log::BookLog;
 use crate::error::BookError;
-use crate::pending::{self, Pending};
+use crate::pending::Pending;
 use cj_board::Board;
 use cj_cluster::Event;
 use cj_log::{LogError, LogItem, LogMarker};
 use cj_model::Name;
 use cj_outside::Store;
-use std::mem;
 
 /// Returns a marker after the first `after` entries. It names the dump of backend `b`, where there is one.
 fn marker_of(after: u64, name: &Name, b: Option<u8>) -> LogMarker
@@ -33,8 +33,8 @@ fn marker_of(after: u64, name: &Name, b: Option<u8>) -> LogMarker
 }
 
 impl Book {
-    /// Marks a checkpoint while no entry is open, and answers how many entries stand before it. It stands in the log before it
-    /// comes into the history.
+    /// Marks a checkpoint while no entry is open, and answers how many entries stand before it. It stands in the log
+    /// before it comes into the history.
     pub fn mark<S: Store>(
         &mut self,
         recovery_log: &mut BookLog<S>,
@@ -64,8 +64,8 @@ impl Book {
         self.finish_marker(board, name, b, appended)
     }
 
-    /// Begins a checkpoint's marker, which is then pending, and answers its item for the log. All memory is taken that its end needs
-    /// (`finish_marker`). Refused, the book is as it was.
+    /// Begins a checkpoint's marker, which is then pending, and answers its item for the log. All memory is taken
+    /// that its end needs (`finish_marker`). Refused, the book is as it was.
     pub fn begin_marker(&mut self, name: &Name, b: Option<u8>) -> Result<LogItem, BookError>
         requires pending { self.old.pending ≡ None }
         requires is_free { is_free self.old.state.history ≡ true }
@@ -74,7 +74,7 @@ impl Book {
         requires backend { b ≢ Some 255 }
         ensures begins { BeginsMarker self.old.state result }
         ensures item { IfOk result (λ item. (item ≡ openings.marker_item (length (log self.old.state.history)) name.now b) × CanAppend item) }
-        ensures pending { OnOk result (self.new.pending ≡ Some (Event.Marker name.now b)) }
+        ensures pending { OnOk result (self.new.pending ≡ Some pending.Marker) }
         ensures state { self.new.state ≡ self.old.state }
         ensures seat { (self.new.board ≡ self.old.board) × (self.new.view ≡ self.old.view) }
         ensures err { OnErr result (self.new ≡ self.old) }
@@ -82,12 +82,12 @@ impl Book {
         self.check_room()?;
         let number = self.length();
         self.markers.reserve(1)?;
-        self.pending = Some(Pending::Marker(marker_of(number, name, b)));
+        self.pending = Some(Pending::Marker);
         Ok(LogItem::Marker(marker_of(number, name, b)))
     }
 
-    /// Ends what `begin_marker` began, once the log was asked to append the item. The marker comes, or the event of the log's fault.
-    /// Where the log wanted memory, none comes. It takes no memory.
+    /// Ends what `begin_marker` began, once the log was asked to append the item. The marker comes, or the event of
+    /// the log's fault. Where the log wanted memory, none comes. It takes no memory.
     pub fn finish_marker(
         &mut self,
         board: &Board,
@@ -96,7 +96,8 @@ impl Book {
         appended: Result<(), LogError>,
     ) -> Result<u64, BookError>
         requires board { self.old.board ≡ board_id board.now }
-        requires pending { self.old.pending ≡ Some (Event.Marker name.now b) }
+        requires pending { self.old.pending ≡ Some pending.Marker }
+        requires fresh { has_marker self.old.state.history name.now ≡ false }
         requires counted { IsCounted self.old (Event.LogFailed 0 0) }
         ensures answer { result ≡ finished_as appended (length (log self.old.state.history)) }
         ensures state { self.new.state ≡ marker_finished self.old.state name.now b appended }
@@ -105,7 +106,7 @@ impl Book {
         ensures seat { self.new.view ≡ view_after (event_or_fault (Event.Marker name.now b) (Event.LogFailed 0 0) result) self.old.view }
     {
         let number = self.length();
-        let marker = pending::marker_of(mem::replace(&mut self.pending, None));
+        self.pending = None;
         match appended {
             Ok(()) => {}
             Err(LogError::NoMemory) => return Err(BookError::NoMemory),
@@ -121,7 +122,7 @@ impl Book {
                 b,
             },
         );
-        self.markers.push_reserved(marker);
+        self.markers.push_reserved(marker_of(number, name, b));
         Ok(number)
     }
 }

@@ -12,7 +12,8 @@ ghost use Rattle.cj_board.specs.Seats.{board_id, front, pass_board, pass_view, h
 ghost use Rattle.cj_board.specs.Steps.{after_closing, after_join, after_learning, after_split};
 ghost use Rattle.cj_board.specs.Views.{own_pass_of, pass_of, pass_without_tokens};
 ghost use Rattle.cj_book.specs.BookLogs.{LogFollows};
-ghost use Rattle.cj_book.specs.Books.{with_session, without_session, HasGivenAll};
+ghost use Rattle.cj_book.specs.Books.{placement_at, with_session, without_session, HasGivenAll, IsPrepared};
+ghost use Rattle.cj_book.specs.declared.pending.Pending.TheVariants as pending;
 ghost use Rattle.cj_book.specs.Events.{entry_finished, finished_as, BeginsEntry, Schedules};
 ghost use Rattle.cj_book.specs.Seated.{count_after, event_or_fault, own_book_after, own_opened, own_pass_after, told_book, told_pass, GivesOwnPassesOnly};
 
@@ -20,8 +21,9 @@ use crate::book::Book;
 use crate::book_log::BookLog;
 use crate::counter::Counter;
 use crate::error::{BookError, OwnError};
+use crate::pending::{BegunEntry, Prepared};
 use cj_board::{Board, Pass};
-use cj_log::{LogError, LogItem};
+use cj_log::LogError;
 use cj_model::{Entry, SESSION_NUMBER_LIMIT};
 use cj_outside::Store;
 
@@ -54,8 +56,8 @@ impl Book {
         Ok((session, p))
     }
 
-    /// Schedules an entry of a session with an own pass, as `schedule` does. The pass counts the event that comes, and has
-    /// seen the history then.
+    /// Schedules an entry of a session with an own pass, as `schedule` does. The pass counts the event that comes,
+    /// and has seen the history then.
     pub fn schedule_own<S: Store>(
         &mut self,
         recovery_log: &mut BookLog<S>,
@@ -85,27 +87,28 @@ impl Book {
         ensures still_gives { GivesOwnPassesOnly self.new }
     {
         recovery_log.legal();
-        let item = self.begin_own(board, p, &e)?;
-        let appended = recovery_log.append(item);
-        self.finish_told(board, p, e, appended)
+        let begun = self.begin_own(board, p, &e)?;
+        let appended = recovery_log.append(begun.item);
+        self.finish_told(board, p, e, begun.prepared, appended)
     }
 
-    /// Begins an entry of a session with an own pass, as `begin_entry` does. Also refused, book and pass have each other's notes,
-    /// and the pass has seen the history.
+    /// Begins an entry of a session with an own pass, as `begin_entry` does. Also refused, book and pass have each
+    /// other's notes, and the pass has seen the history.
     pub fn begin_own(
         &mut self,
         board: &Board,
         p: &mut Pass,
         e: &Entry,
-    ) -> Result<LogItem, BookError>
+    ) -> Result<BegunEntry, BookError>
         requires board { (self.old.board ≡ board_id board.now) × (pass_board p.old ≡ board_id board.now) }
         requires pending { self.old.pending ≡ None }
         requires own { ((pass_view p.old).own_session ≡ e.now.session) × (0 < e.now.session) }
         requires fit { is_free self.old.state.history ≡ true → IsFitEntry (log self.old.state.history) e.now }
         requires gives { GivesOwnPassesOnly self.old }
         ensures begins { BeginsEntry self.old.state e.now.act result }
-        ensures item { IfOk result (λ item. (item ≡ entry_item (length (log self.old.state.history) + 1) e.now) × CanAppend item) }
-        ensures pending { OnOk result (self.new.pending ≡ Some (Event.Sched e.now)) }
+        ensures item { IfOk result (λ begun. (begun.item ≡ entry_item (length (log self.old.state.history) + 1) e.now) × CanAppend begun.item) }
+        ensures prepared { IfOk result (λ begun. IsPrepared (placement_at self.old.state) (log self.old.state.history) e.now begun.prepared) }
+        ensures pending { OnOk result (self.new.pending ≡ Some pending.Entry) }
         ensures refused { OnErr result (self.new.pending ≡ None) }
         ensures state { self.new.state ≡ self.old.state }
         ensures board { (self.new.board ≡ self.old.board) × (pass_board p.new ≡ pass_board p.old) }
@@ -122,17 +125,20 @@ impl Book {
         self.begin_entry(e)
     }
 
-    /// Ends what `begin_own` began, as `finish_entry` does. The pass counts the event that comes, and has seen the history then.
-    /// Sessions and passes may have come, gone and told the book between the two.
+    /// Ends what `begin_own` began, as `finish_entry` does. The pass counts the event that comes, and has seen the
+    /// history then. Sessions and passes may have come, gone and told the book between the two.
     pub fn finish_own(
         &mut self,
         board: &Board,
         p: &mut Pass,
         e: Entry,
+        prepared: Prepared,
         appended: Result<(), LogError>,
     ) -> Result<u64, BookError>
         requires board { (self.old.board ≡ board_id board.now) × (pass_board p.old ≡ board_id board.now) }
-        requires pending { self.old.pending ≡ Some (Event.Sched e) }
+        requires pending { self.old.pending ≡ Some pending.Entry }
+        requires fit { IsFitEntry (log self.old.state.history) e }
+        requires prepared { IsPrepared (placement_at self.old.state) (log self.old.state.history) e prepared }
         requires own { ((pass_view p.old).own_session ≡ e.session) × (0 < e.session) }
         requires gives { GivesOwnPassesOnly self.old }
         ensures answer { result ≡ finished_as appended (length (log self.old.state.history) + 1) }
@@ -150,7 +156,7 @@ impl Book {
         ensures still_gives { GivesOwnPassesOnly self.new }
     {
         self.tell(board, p);
-        self.finish_told(board, p, e, appended)
+        self.finish_told(board, p, e, prepared, appended)
     }
 
     /// The same, with a pass that has seen the history.
@@ -159,10 +165,13 @@ impl Book {
         board: &Board,
         p: &mut Pass,
         e: Entry,
+        prepared: Prepared,
         appended: Result<(), LogError>,
     ) -> Result<u64, BookError>
         requires board { (self.old.board ≡ board_id board.now) × (pass_board p.old ≡ board_id board.now) }
-        requires pending { self.old.pending ≡ Some (Event.Sched e) }
+        requires pending { self.old.pending ≡ Some pending.Entry }
+        requires fit { IsFitEntry (log self.old.state.history) e }
+        requires prepared { IsPrepared (placement_at self.old.state) (log self.old.state.history) e prepared }
         requires own { ((pass_view p.old).own_session ≡ e.session) × (0 < e.session) }
         requires told { front p.old ≡ self.old.state.history }
         requires given { e.session ≤ self.old.state.greatest }
@@ -179,7 +188,7 @@ impl Book {
         self.legal();
         board.check_count(p);
         let mut counter = Counter::taken(board, p);
-        let result = self.finish_entry(board, &mut counter, e, appended);
+        let result = self.finish_entry(board, &mut counter, e, prepared, appended);
         counter.put_back(p);
         board.check_count(p);
         self.legal();

@@ -1,6 +1,6 @@
 //! Calls that read a book and change nothing.
 
-ghost use Rattle.std.specs.Prelude.{◌≡◌, ◌↔◌, ◌-◌, ◌^◌, ◌<◌, ◌&&◌, ℕ, true, [], ◌∷◌, ◌++◌, length, slice_get, option_copied, IsNone, IfSome, IfOk, IsTrue};
+ghost use Rattle.std.specs.Prelude.{◌≡◌, ◌↔◌, ◌-◌, ◌^◌, ◌<◌, ◌&&◌, ℕ, true, false, None, [], ◌∷◌, ◌++◌, length, slice_get, option_copied, IsNone, IfSome, IfOk, IsTrue};
 ghost use Rattle.std.specs.List.{list_any};
 ghost use Rattle.std.specs.Str.{bytes_eq};
 ghost use Rattle.cj_model.specs.Sql.PlainRequests.{request_of};
@@ -74,6 +74,13 @@ impl Book {
         ensures { result ≡ is_free self.now.state.history }
     {
         self.done == self.entries.len()
+    }
+
+    /// Returns whether an entry or a marker is on its way into the recovery log.
+    pub fn is_pending(&self) -> bool
+        ensures { result ≡ false ↔ self.now.pending ≡ None }
+    {
+        self.pending.is_some()
     }
 
     /// Returns the number of the open entry, which is the last one. None if no entry is open.
@@ -293,7 +300,7 @@ impl Book {
     /// Prepares an entry that may come next.
     pub(crate) fn prepare(&self, e: &Entry) -> Result<Prepared, NoMemory>
         requires { IsFitEntry (log self.now.state.history) e.now }
-        ensures { IfOk result (IsPrepared (placement_at self.now.state) self.now.state.history e.now) }
+        ensures { IfOk result (IsPrepared (placement_at self.now.state) (log self.now.state.history) e.now) }
     {
         Ok(Prepared {
             hosts: self.concerned(e),

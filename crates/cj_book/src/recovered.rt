@@ -54,7 +54,7 @@ impl Recovered {
         let number = self.entries.len() as u64 + 1;
         let e = boxed.entry();
         let hosts = self.transactions.concerned(placement, e);
-        self.transactions.reserve(&e.act)?;
+        self.transactions.reserve()?;
         self.transactions.follow(number, e, hosts);
         self.greatest = self.greatest.max(e.session);
         self.entries.push(boxed)?;

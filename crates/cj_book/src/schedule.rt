@@ -9,7 +9,8 @@ ghost use Rattle.cj_recovery.specs.Openings.{entry_item};
 ghost use Rattle.cj_board.specs.Seats.{board_id, book_board, book_view, history};
 ghost use Rattle.cj_board.specs.Steps.{HasCountNotes};
 ghost use Rattle.cj_book.specs.BookLogs.{LogFollows};
-ghost use Rattle.cj_book.specs.Books.{IsOfGiven, IsOfKnown};
+ghost use Rattle.cj_book.specs.Books.{placement_at, IsOfGiven, IsOfKnown, IsPrepared};
+ghost use Rattle.cj_book.specs.declared.pending.Pending.TheVariants as pending;
 ghost use Rattle.cj_book.specs.Counters.{book_after, hearing, own_view, pass_after, CanCount, IsOn};
 ghost use Rattle.cj_book.specs.Events.{entry_finished, finished_as, BeginsEntry, Schedules};
 ghost use Rattle.cj_book.specs.Seated.{event_or_fault, view_after, GivesOwnPassesOnly, IsCounted};
@@ -18,15 +19,13 @@ use crate::book::Book;
 use crate::book_log::BookLog;
 use crate::counter::{Counter, announce};
 use crate::error::BookError;
-use crate::pending::{Pending, prepared_of};
+use crate::pending::{BegunEntry, Pending, Prepared};
 use cj_board::{Board, BookSeat};
 use cj_cluster::{BoxedEntry, Event};
-use cj_log::{LogError, LogItem};
+use cj_log::LogError;
 use cj_model::Entry;
 use cj_outside::Store;
 use cj_recovery::entry_item;
-use std::mem;
-use std::snapshot::Snapshot;
 
 /// Appends an entry to the board, and then to `entries`, which must have room for one more.
 fn put_entry(
@@ -56,11 +55,11 @@ fn put_entry(
 }
 
 impl Book {
-    /// Schedules an entry, which is then open, and answers its number. It stands in the log before it comes into the history.
-    /// The cache drops the answers whose queries need a table that the entry touches.
+    /// Schedules an entry, which is then open, and answers its number. It stands in the log before it comes into the
+    /// history. The cache drops the answers whose queries need a table that the entry touches.
     ///
-    /// Where it is refused for several reasons, the error is the first of them in the order of the variants. Where the log's store
-    /// failed, the history has an event of that; else it is as it was.
+    /// Where it is refused for several reasons, the error is the first of them in the order of the variants. Where
+    /// the log's store failed, the history has an event of that; else it is as it was.
     pub fn schedule<S: Store>(
         &mut self,
         recovery_log: &mut BookLog<S>,
@@ -83,20 +82,21 @@ impl Book {
     {
         self.legal();
         recovery_log.legal();
-        let item = self.begin_entry(&e)?;
-        let appended = recovery_log.append(item);
-        self.finish_entry(board, &mut Counter::Nobody, e, appended)
+        let begun = self.begin_entry(&e)?;
+        let appended = recovery_log.append(begun.item);
+        self.finish_entry(board, &mut Counter::Nobody, e, begun.prepared, appended)
     }
 
-    /// Begins an entry, which is then pending, and answers its item for the log. All memory is taken that its end needs
-    /// (`finish_entry`). Refused, the book is as it was.
-    pub fn begin_entry(&mut self, e: &Entry) -> Result<LogItem, BookError>
+    /// Begins an entry, which is then pending, and answers its item for the log, with what its end needs
+    /// (`finish_entry`). All memory for that is taken. Refused, the book is as it was.
+    pub fn begin_entry(&mut self, e: &Entry) -> Result<BegunEntry, BookError>
         requires pending { self.old.pending ≡ None }
         requires fit { is_free self.old.state.history ≡ true → IsFitEntry (log self.old.state.history) e.now }
         requires given { IsOfGiven self.old.state e.now }
         ensures begins { BeginsEntry self.old.state e.now.act result }
-        ensures item { IfOk result (λ item. (item ≡ entry_item (length (log self.old.state.history) + 1) e.now) × CanAppend item) }
-        ensures pending { OnOk result (self.new.pending ≡ Some (Event.Sched e.now)) }
+        ensures item { IfOk result (λ begun. (begun.item ≡ entry_item (length (log self.old.state.history) + 1) e.now) × CanAppend begun.item) }
+        ensures prepared { IfOk result (λ begun. IsPrepared (placement_at self.old.state) (log self.old.state.history) e.now begun.prepared) }
+        ensures pending { OnOk result (self.new.pending ≡ Some pending.Entry) }
         ensures state { self.new.state ≡ self.old.state }
         ensures seat { (self.new.board ≡ self.old.board) × (self.new.view ≡ self.old.view) }
         ensures err { OnErr result (self.new ≡ self.old) }
@@ -105,23 +105,27 @@ impl Book {
         let item = entry_item(self.alloc, self.length() + 1, e)?;
         let prepared = self.prepare(e)?;
         self.entries.reserve(1)?;
-        self.transactions.reserve(&e.act)?;
-        self.pending = Some(Pending::Entry(Snapshot::of(e), prepared));
-        Ok(item)
+        self.transactions.reserve()?;
+        self.pending = Some(Pending::Entry);
+        Ok(BegunEntry { item, prepared })
     }
 
-    /// Ends what `begin_entry` began, once the log was asked to append the item. The entry comes, and is open. Or the event of the
-    /// log's fault comes. Where the log wanted memory, none comes. It takes no memory.
+    /// Ends what `begin_entry` began, once the log was asked to append the item. The entry comes, and is open. Or the
+    /// event of the log's fault comes. Where the log wanted memory, none comes. It takes no memory.
     pub fn finish_entry(
         &mut self,
         board: &Board,
         counter: &mut Counter,
         e: Entry,
+        prepared: Prepared,
         appended: Result<(), LogError>,
     ) -> Result<u64, BookError>
         requires board { self.old.board ≡ board_id board.now }
         requires on { IsOn (board_id board.now) counter.old }
-        requires pending { self.old.pending ≡ Some (Event.Sched e) }
+        requires pending { self.old.pending ≡ Some pending.Entry }
+        requires fit { IsFitEntry (log self.old.state.history) e }
+        requires given { IsOfGiven self.old.state e }
+        requires prepared { IsPrepared (placement_at self.old.state) (log self.old.state.history) e prepared }
         requires counted { CanCount self.old (own_view counter.old) (Event.Sched e) × CanCount self.old (own_view counter.old) (Event.LogFailed e.session e.seq) }
         ensures answer { result ≡ finished_as appended (length (log self.old.state.history) + 1) }
         ensures state { self.new.state ≡ entry_finished self.old.state e appended }
@@ -132,7 +136,7 @@ impl Book {
         ensures own { own_view counter.new ≡ pass_after (event_or_fault (Event.Sched e) (Event.LogFailed e.session e.seq) result) (own_view counter.old) self.old.view }
     {
         let number = self.length() + 1;
-        let prepared = prepared_of(mem::replace(&mut self.pending, None));
+        self.pending = None;
         match appended {
             Ok(()) => {}
             Err(LogError::NoMemory) => return Err(BookError::NoMemory),

@@ -7,7 +7,7 @@ ghost use Rattle.cj_model.specs.Cluster.Placements.{concerns};
 ghost use Rattle.cj_cluster.specs.History.Legality.{IsFitEntry};
 ghost use Rattle.cj_place.specs.Layouts.{placement_of};
 ghost use Rattle.cj_book.specs.Kept.{KeepsTransactions};
-ghost use Rattle.cj_book.specs.Lists.{HasPlace, IsIndexOf, new_tx, numbered, tx_number, with_wrote, without, wrote_of};
+ghost use Rattle.cj_book.specs.Lists.{IsIndexOf, new_tx, numbered, tx_number, with_wrote, without, wrote_of};
 ghost use Rattle.cj_book.specs.Lists as lists;
 
 use cj_model::{Act, Entry, NoMemory};
@@ -83,18 +83,13 @@ impl OpenTransactions {
         }
     }
 
-    /// Makes a place for the transaction that an act begins. Only a BEGIN takes memory.
-    pub fn reserve(&mut self, act: &Act) -> Result<(), NoMemory>
+    /// Makes a place for one more.
+    pub fn reserve(&mut self) -> Result<(), NoMemory>
         ensures list { self.new.list ≡ self.old.list }
-        ensures place { OnOk result (HasPlace act.now self.new.places) }
+        ensures place { OnOk result (0 < self.new.places) }
     {
-        match act {
-            Act::Begin => {
-                self.open.reserve(1)?;
-                Ok(())
-            }
-            Act::Write(_) | Act::Create(_) | Act::Drop(_) | Act::Commit | Act::Abort => Ok(()),
-        }
+        self.open.reserve(1)?;
+        Ok(())
     }
 
     fn begin(&mut self, number: u64, session: u64)
@@ -141,7 +136,7 @@ impl OpenTransactions {
     /// Entry `number` of the log is scheduled, which concerns these backends. It takes no memory.
     pub fn follow(&mut self, number: u64, e: &Entry, hosts: u32)
         requires above { All (λ t. tx_number t < number) self.old.list }
-        requires place { HasPlace e.now.act self.old.places }
+        requires place { 0 < self.old.places }
         ensures { self.new.list ≡ lists.transactions_after self.old.list number hosts e.now e.now.act }
     {
         match &e.act {

@@ -13,7 +13,6 @@
 mod case;
 mod cut;
 mod laws;
-mod left_store;
 mod number;
 mod pieces;
 mod playing;
@@ -26,7 +25,6 @@ mod words;
 
 pub use case::Case;
 pub use laws::shown_texts_spell_their_bytes;
-pub use left_store::{LeftStore, Slot};
 pub use pieces::Pieces;
 pub use playing::play;
 pub use runner::{Outcome, Runner};

@@ -8,9 +8,9 @@ use Rattle.cj_core.proofs.Common.{SessionView, slice_get_past, slice_get_within,
 use Rattle.std.proofs.lemmas.Nat.Bits.{bit_at_lowest, bit_at-suc}
 use Rattle.cj_model.specs.declared.answer.Asked.TheVariants as asked
 use Rattle.cj_model.specs.declared.answer.Outcome.TheVariants as outcome
-use Rattle.cj_core.proofs.SoloTurns.{refused_keeps}
-use Rattle.cj_core.proofs.SoloReads.{no_code}
-use Rattle.cj_core.proofs.SoloWrites.{answered_without}
+use Rattle.cj_calls.proofs.SoloTurns.{refused_keeps}
+use Rattle.cj_calls.proofs.SoloReads.{no_code}
+use Rattle.cj_calls.proofs.SoloWrites.{answered_without}
 
 -- ---- counts
 
@@ -60,7 +60,7 @@ asked_blames_nobody reply (asked.Refused r) possible is =
 -- ---- masks
 
 -- a mask that is not 0 has a backend
-some_backend : (most mask : ℕ) → mask ≤ most → mask ≢ 0 → (b : ℕ) × (in_mask mask b ≡ true)
+pub some_backend : (most mask : ℕ) → mask ≤ most → mask ≢ 0 → (b : ℕ) × (in_mask mask b ≡ true)
 some_backend zero mask le some = absurd (some (omega (arith, le)))
 some_backend (suc most) mask le some =
     ⊎_elim

@@ -1,5 +1,5 @@
 -- Each reply of a session over which no backend, or not the log's store, counted a fault doesn't say that it failed.
-use Rattle.std.proofs.Common.{◌≡◌, ◌≢◌, ◌⊎◌, inl, inr, ℕ, zero, suc, ℤ, ◌-◌, ◌^◌, ◌<◌, ◌≤◌, ◌==◌, Bool, true, false, if◌then◌else◌, List, [], ◌∷◌, length, get_or, All, Option, None, Some, refl, ap, sym, ◌∙◌, subst, arith, ⊎_elim}
+use Rattle.std.proofs.Common.{◌≡◌, ◌⊎◌, inl, inr, ℕ, zero, suc, ℤ, ◌-◌, ◌^◌, ◌<◌, ◌≤◌, ◌==◌, Bool, true, false, if◌then◌else◌, List, [], ◌∷◌, length, get_or, All, Option, None, Some, refl, ap, sym, ◌∙◌, subst, arith, ⊎_elim}
 use Rattle.cj_core.proofs.Common.{Act, act_of, All-cons, All-nil, All-weaker, ALREADY_LOGGED_IN, Answer, BAD_LOGIN, BlamesNobody, BlamesNoStore, cache_counted, Call, CanCountMore, cases_lt, Core, desk_of, desk_tx, DeskCall, Done, faults_of, forbidden_by, get_or_default, get_or_past, IN_TRANSACTION, log_failed_in, LOG_FAULT, log_faults_after, NO_MEMORY}
 use Rattle.cj_core.proofs.Common.{NO_TRANSACTION, NOT_LOGGED_IN, query_skipped, READ_FAULT, Refusal, refusal_of_code, Refused, Reply, Rows, SCHEMA_IN_TRANSACTION, SoloState, SoloSteps, Stats, sum, sum_by-cons, SYNTAX, turn_taken, UNFINISHED, with_core, with_request_counted, WorldState, WorldTurn}
 use Rattle.cj_model.specs.declared.message.Message.{Message}

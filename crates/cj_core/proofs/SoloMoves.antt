@@ -6,7 +6,7 @@ use Rattle.cj_core.proofs.Common.{session_at-is, session_of-push_other, session_
 use Rattle.cj_cluster.specs.declared.event.Event.TheVariants as event
 use Rattle.cj_cluster.specs.declared.moves.Moved.TheVariants as moved
 use Rattle.cj_cluster.proofs.Soundness.{session_sound, by_reason}
-use Rattle.cj_core.proofs.SoloTurns.{counted_session}
+use Rattle.cj_calls.proofs.SoloTurns.{counted_session}
 
 module _ (tells : Bool) (c z : Core) (s : ℕ) (w : CoreInvariant c) (stands : StandsBetweenCalls c s) where
   -- nothing changes

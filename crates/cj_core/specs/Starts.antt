@@ -1,18 +1,13 @@
 -- Where a start leads, and what the backends hold when a world is given up.
-use Rattle.std.specs.Prelude.{◌≡◌, ◌⊎◌, ℕ, ◌<◌, Bool, true, false, List, [], ◌∷◌, ◌++◌, All, filter, length, map, slice_get, Result, Ok, Err}
-use Rattle.std.specs.List.{AllPairs, range_with_len}
-use Rattle.std.specs.Option.{option_map}
+use Rattle.std.specs.Prelude.{◌≡◌, ◌⊎◌, ℕ, Bool, true, List, [], ◌∷◌, ◌++◌, All, map, slice_get, Result, Ok, Err}
 use Rattle.std.specs.declared.option.Option.{Option}
-use Rattle.std.specs.declared.option.Option.TheVariants.{None, Some}
+use Rattle.std.specs.declared.option.Option.TheVariants.{Some}
 use Rattle.cj_model.specs.declared.database.Slot.{Slot}
 use Rattle.cj_outside.specs.Causes.{next}
-use Rattle.cj_model.specs.declared.request.Act.TheVariants as act
 use Rattle.cj_model.specs.Cluster.Placements.{Placement, part}
 use Rattle.cj_cluster.specs.declared.event.Event.{Event}
-use Rattle.cj_cluster.specs.declared.event.Event.TheVariants.{Enabled, Ended, Sched}
 use Rattle.cj_cluster.specs.History.Histories.{log, is_free, is_enabled, database_of, database_after}
 use Rattle.cj_cluster.specs.Moves.Cores.{Core, position_at}
-use Rattle.cj_cluster.specs.Moves.Moves.{entry_numbered, is_orphan, last_number, user_of}
 use Rattle.cj_backend.specs.Backends.{Arming}
 use Rattle.cj_replica.specs.Cells.{CellState, KeepsBegun}
 use Rattle.cj_records.specs.RecordFiles.{Finds}
@@ -22,10 +17,9 @@ use Rattle.cj_log.specs.Logs.{HasBadItem, KeepsItems, log_magic}
 use Rattle.cj_recovery.specs.Openings.{OpensTo}
 use Rattle.cj_book.specs.declared.error.StartError.{StartError}
 use Rattle.cj_book.specs.declared.error.StartError.TheVariants as errors
-use Rattle.cj_book.specs.Starts.{KeepsBadEntry, greatest_session}
-use Rattle.cj_state.specs.Beginnings.{opened_core}
-use Rattle.cj_state.specs.Faults.{faults_of}
+use Rattle.cj_book.specs.Starts.{KeepsBadEntry}
 use Rattle.cj_state.specs.Worlds.{WorldState}
+use Rattle.cj_start.specs.Started.{HasStarted}
 
 -- what contracts see of a backend, without the transactions that it has begun
 pub record BackendState : Type 0 where
@@ -64,41 +58,6 @@ AreCurrent tells c told =
     tells ≡ true → is_free c.history ≡ true → (b : ℕ) → is_enabled c.history b ≡ true → slice_get told b ≡ Some (Some (part c.placement b (database_of (log c.history))))
 
 -- ---- what a start leads to
-
--- the numbers of the transactions that are open and whose sessions aren't, rising
-abbrev pub orphans_of : Core → List ℕ
-orphans_of c = filter (is_orphan c) (range_with_len 1 (length (log c.history)))
-
--- the history after the administrator ended this transaction; some backends failed in it, and none ran out of memory
-abbrev pub with_abort : List Event → ℕ → ℕ → List Event
-with_abort h tx failed = h ++ Sched (record { session = 0; seq = 0; tx = tx; user = user_of (entry_numbered (log h) tx); act = act.Abort }) ∷ Ended failed 0 ∷ []
-
--- the administrator ended each of these transactions, one after another
-abbrev pub AbortsEach : List Event → List ℕ → List Event → Type 0
-AbortsEach h [] z = z ≡ h
-AbortsEach h (tx ∷ txs) z = (failed : ℕ) × AbortsEach (with_abort h tx failed) txs z
-
--- After a start a backend is enabled, has taken the whole log and has failed in nothing; or it failed, which it has
--- counted, and is out.
-abbrev pub StandsAfterStart : List ℕ → WorldState → ℕ → Type 0
-StandsAfterStart faults w b =
-    ((is_enabled w.core.history b ≡ true) × (position_at w.core b ≡ Some (last_number w.core)) × (slice_get (faults_of w.cells) b ≡ slice_get faults b))
-    ⊎ ((is_enabled w.core.history b ≡ false) × (position_at w.core b ≡ None) × (slice_get (faults_of w.cells) b ≡ option_map next (slice_get faults b)))
-
--- A start over a log that opens with this history: each backend replayed it, those that did not fail were enabled in
--- the order of their numbers, and then each transaction that was left open was ended. No session is open, and there
--- is no dump.
-pub record HasStarted (p : Placement) (opening : List Event) (faults : List ℕ) (w : WorldState) : Type 0 where
-  pub placement : w.core.placement ≡ p
-  pub enabled : List ℕ
-  pub rises : AllPairs (λ (a b : ℕ). a < b) enabled
-  pub history : AbortsEach (opening ++ map Enabled enabled) (orphans_of (opened_core p opening)) w.core.history
-  pub idle : is_free w.core.history ≡ true
-  pub sessions : w.core.sessions ≡ []
-  pub dumps : w.core.dumps ≡ []
-  pub greatest : w.core.greatest ≡ greatest_session (log opening)
-  pub cells : length w.cells ≡ p.backends
-  pub backends : (b : ℕ) → b < p.backends → StandsAfterStart faults w b
 
 -- The log's store had some items, and the start was one over the history that they open with. Over a log without
 -- entries no backend was called.

@@ -7,7 +7,8 @@ ghost use Rattle.cj_cluster.specs.History.Turns.{Call};
 ghost use Rattle.cj_desk.specs.SessionTranscripts.{setting, ClientState, SessionTranscript};
 ghost use Rattle.cj_state.specs.Faults.{faults_of};
 ghost use Rattle.cj_core.specs.QuietCalls.{BlamesNoStore, BlamesNobody, CanCountMore};
-ghost use Rattle.cj_core.specs.Solos.{SoloState, SoloSteps, WorldTurn, desk_of};
+ghost use Rattle.cj_core.specs.Solos.{SoloState, SoloSteps, desk_of};
+ghost use Rattle.cj_calls.specs.WorldTurns.{WorldTurn};
 ghost use Rattle.cj_state.specs.Worlds.{WorldState};
 
 /// A call's reply says that backends failed only if a backend counted a fault over the call. A

@@ -3,21 +3,17 @@
 //! A `World` starts from a log with empty backends (`start`). It then changes by moves (`step`, `make`, `run`) or by
 //! the calls of a `Solo`, which serves one session.
 //! Promised: a start loses nothing of the log, moves do what their definitions say, and each call of a `Solo` is a
-//! turn of one database (`WorldTurn`). A session over which nothing counted a fault is not told of one (`laws`).
-//! To change: `solo_read` and `solo_write` serve requests; `start`, `replaying` and `ending` have the start; `runs`
-//! has lists of moves.
-//! To read: `specs/Solos`, `specs/Starts` and `specs/Played`. Proofs begin in `proofs/SoloTurns` with `SoloReads` and
-//! `SoloWrites`, in `proofs/StartWhole` and in `proofs/Making`.
+//! turn of one database (`SoloSteps`). A session over which nothing counted a fault is not told of one (`laws`).
+//! To change: `start` makes a world and gives it up, and `runs` has lists of moves. What a call does is in `cj_calls`,
+//! what a start does once its log is opened in `cj_start`.
+//! To read: `specs/Solos`, `specs/Starts` and `specs/Played`. Proofs begin in `proofs/SoloCalls`, in
+//! `proofs/StartOpened` and in `proofs/Making`.
 #![tactic(auto)]
 
 mod emptied;
-mod ending;
 mod laws;
-mod replaying;
 mod runs;
 mod solo;
-mod solo_read;
-mod solo_write;
 mod start;
 mod world;
 

@@ -21,15 +21,17 @@ ghost use Rattle.cj_moves.specs.Counting.{HasCauses, HasLogCauses};
 ghost use Rattle.cj_state.specs.Effects.{with_core};
 ghost use Rattle.cj_state.specs.Worlds.{accounts_of, CacheFollowsLog, IsSameWorldButLog};
 ghost use Rattle.cj_moves.specs.Logins.{HasLogins};
-ghost use Rattle.cj_core.specs.Proving.SoloParts.{call_of};
-ghost use Rattle.cj_core.specs.Solos.{desk_of, AddsEntry, EndsStarving, IsMoveOfNoSession, ReadsWithCache, SoloSteps, StandsBetweenCalls, WorldTurn};
+ghost use Rattle.cj_calls.specs.WorldTurns.{call_of, StandsBetweenCalls, WorldTurn};
+ghost use Rattle.cj_core.specs.Solos.{desk_of, IsMoveOfNoSession, SoloSteps};
+ghost use Rattle.cj_calls.specs.OwnEvents.{AddsEntry};
+ghost use Rattle.cj_calls.specs.Entries.{EndsStarving};
+ghost use Rattle.cj_calls.specs.CacheUse.{ReadsWithCache};
 ghost use Rattle.cj_moves.specs.Steps.{IsMet};
 
-use crate::solo_read::serve_read;
-use crate::solo_write::serve_write;
 use crate::world::World;
 use cj_backend::Backend;
 use cj_book::SessionsFull;
+use cj_calls::{ServedWrite, serve_read, serve_write};
 use cj_cluster::{Move, MoveError, Moved};
 use cj_desk::{Desk, Written};
 use cj_model::{Act, Refusal, Reply, Select, Text};
@@ -57,7 +59,8 @@ pub struct Solo<B: Backend, S: Store> {
 
 impl<B: Backend, S: Store> Model for Solo<B, S> {
     ghost use Rattle.cj_moves.specs.Logins.{HasLogins};
-    ghost use Rattle.cj_core.specs.Solos.{SoloState, StandsBetweenCalls};
+    ghost use Rattle.cj_core.specs.Solos.{SoloState};
+    ghost use Rattle.cj_calls.specs.WorldTurns.{StandsBetweenCalls};
 
     ghost Value = { SoloState };
 
@@ -121,19 +124,18 @@ impl<B: Backend, S: Store> World<B, S> {
         self.state.count(s);
     }
 
-    /// Schedules the act as an entry of session `s`, in transaction `tx`, 0 for none, and gives its
-    /// number and reply, with the mask of the backends that ran out of memory in it. The number is 0
-    /// if the act was refused.
-    fn serve_write(&mut self, s: u64, user: &Text, tx: u64, act: Act) -> (Written, u32)
+    /// Schedules the act as an entry of session `s`, in transaction `tx`, 0 for none, and has each
+    /// enabled backend carry it out. The number is 0 if the act was refused.
+    fn serve_write(&mut self, s: u64, user: &Text, tx: u64, act: Act) -> ServedWrite
         requires stands { StandsBetweenCalls self.old.core s }
         requires counts { (session_at self.old.core s).requests < REQUEST_LIMIT }
         requires short { length user.now ≤ USER_LIMIT }
         requires written { IsWritten (request_of act) }
         requires fits { FitsTx (moves.open_tx self.old.core s) tx act }
-        ensures turn { WorldTurn B.tells s self.old (call_of self.old.core s tx user.now (request_of act) result.0.reply) self.new }
-        ensures entry { (failed : List ℕ) × AddsEntry result.0.number s (call_of self.old.core s tx user.now (request_of act) result.0.reply) act failed self.old.core.history self.new.core.history }
+        ensures turn { WorldTurn B.tells s self.old (call_of self.old.core s tx user.now (request_of act) result.written.reply) self.new }
+        ensures entry { (failed : List ℕ) × AddsEntry result.written.number s (call_of self.old.core s tx user.now (request_of act) result.written.reply) act failed self.old.core.history self.new.core.history }
         ensures cache { CacheFollowsLog self.old self.new }
-        ensures starved { EndsStarving result.1 self.old.core.history self.new.core.history }
+        ensures starved { EndsStarving result.starved self.old.core.history self.new.core.history }
     {
         serve_write(&mut self.state, s, user, tx, act)
     }
@@ -161,7 +163,7 @@ impl<B: Backend, S: Store> Solo<B, S> {
 
     /// Closes the session and returns the world. An open transaction of the session becomes an
     /// orphan. This takes no memory.
-    #[tactic(auto, using(crate::proofs::SoloTurns::stands_idle))]
+    #[tactic(auto, using(cj_calls::proofs::SoloTurns::stands_idle))]
     pub fn close(self) -> World<B, S>
         ensures { result ≡ with_core self.world (closed_for self.world.core self.session) }
     {
@@ -179,7 +181,7 @@ impl<B: Backend, S: Store> Solo<B, S> {
         ensures made { SoloSteps B.tells self.old (turn_taken (next_call (desk_of self.old) tx user.now (request_of act) result.0)) self.new }
         ensures starved { EndsStarving result.1 self.old.world.core.history self.new.world.core.history }
     {
-        let (written, starved) = self.world.serve_write(self.session, user, tx, act);
+        let ServedWrite { written, starved } = self.world.serve_write(self.session, user, tx, act);
         (written.reply, starved)
     }
 
@@ -216,14 +218,14 @@ impl<R, B: Backend, S: Store> Desk<R> for Solo<B, S> {
     }
 
     fn write(&mut self, _rt: &R, user: &Text, tx: u64, act: Act) -> Written {
-        self.world.serve_write(self.session, user, tx, act).0
+        self.world.serve_write(self.session, user, tx, act).written
     }
 
     fn read(&mut self, _rt: &R, user: &Text, tx: u64, select: &Select) -> Reply {
         self.world.serve_read(self.session, user, tx, select)
     }
 
-    #[tactic(auto, using(crate::proofs::SoloTurns::stands_idle))]
+    #[tactic(auto, using(cj_calls::proofs::SoloTurns::stands_idle))]
     fn skip(&mut self) {
         self.world.count(self.session);
     }

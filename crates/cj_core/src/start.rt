@@ -2,14 +2,12 @@
 
 ghost use Rattle.std.specs.Prelude.{◌≡◌, ◌≤◌, ℕ, true, List, [], length, map, vec_capacity, IfOk, OnOk};
 ghost use Rattle.cj_cluster.specs.History.Histories.{log};
-ghost use Rattle.cj_core.specs.Starts.{started_backend, state_by, AreHolding, AreCurrent, CountsFaultOfStart, HasStarted, HaveBegunNone, KeepEachBegun, RefusesBytes, StartsFrom};
-ghost use Rattle.cj_core.specs.Proving.StartParts.{CountsFaultOfPart, IsLonger};
-ghost use Rattle.cj_recovery.specs.Openings.{IsOpening, items_of};
-ghost use Rattle.cj_state.specs.Beginnings.{AreEmpty, AreFresh, opened_core};
+ghost use Rattle.cj_core.specs.Starts.{started_backend, state_by, AreHolding, AreCurrent, CountsFaultOfStart, HaveBegunNone, KeepEachBegun, RefusesBytes, StartsFrom};
+ghost use Rattle.cj_recovery.specs.Openings.{items_of};
+ghost use Rattle.cj_state.specs.Beginnings.{AreEmpty, AreFresh};
 ghost use Rattle.cj_board.specs.Seats.{board_id, book_board, book_view, pass_board, AreNewCells};
 ghost use Rattle.cj_replica.specs.Cells.{CellState};
 ghost use Rattle.cj_state.specs.Proving.Seated.{AreAt};
-ghost use Rattle.cj_state.specs.Faults.{faults_of};
 ghost use Rattle.cj_state.specs.Seats.{states_of, AreCellsAt};
 ghost use Rattle.cj_state.specs.Sharing.{IsTakenApart, NumbersFollowHistory};
 ghost use Rattle.cj_state.specs.Worlds.{log_view, IsFresh, IsWorld};
@@ -21,8 +19,6 @@ ghost use Rattle.cj_model.specs.Cluster.Caching.{empty_cache};
 ghost use Rattle.cj_place.specs.Layouts.{placement_of};
 
 use crate::emptied::Emptied;
-use crate::ending::end_all;
-use crate::replaying::{enable_everywhere, replay_everywhere};
 use crate::world::World;
 use cj_auth::Accounts;
 use cj_backend::Backend;
@@ -34,6 +30,7 @@ use cj_outside::Store;
 use cj_place::Placement;
 use cj_replica::Cell;
 use cj_shelf::MemoryShelf;
+use cj_start::bring_up;
 use cj_state::{Backends, Parts, Shared, State};
 use std::alloc::Global;
 
@@ -125,27 +122,6 @@ fn backends_of<B: Backend + Drop>(mut cells: Vec<Cell<B>>, mut backends: Vec<B>)
         backends.push_reserved(cell.into_backend());
     }
     backends
-}
-
-/// Brings the backends to the end of the opened log, enables those that don't fail, and ends the
-/// transactions that the log leaves open.
-fn bring_up<B: Backend, S: Store>(state: &mut State<B, S>) -> Result<(), StartError>
-    requires opened { state.old.core ≡ opened_core state.old.core.placement state.old.core.history }
-    requires opening { IsOpening state.old.core.history }
-    ensures started { OnOk result (HasStarted state.old.core.placement state.old.core.history (faults_of state.old.cells) state.new) }
-    ensures uncalled { OnOk result (log state.old.core.history ≡ [] → state.new.cells ≡ state.old.cells) }
-    ensures setup { OnOk result (state.new.setup ≡ state.old.setup) }
-    ensures cache { OnOk result (state.new.cache ≡ state.old.cache) }
-    ensures balance { OnOk result (state.new.balance ≡ state.old.balance) }
-    ensures longer { IsLonger state.old state.new }
-    ensures cause { CountsFaultOfPart state.old.recovery_log.faults result state.new.recovery_log.faults }
-{
-    replay_everywhere(state)?;
-    state.legal();
-    enable_everywhere(state)?;
-    end_all(state)?;
-    state.legal();
-    Ok(())
 }
 
 impl<B: Backend + Drop, S: Store + Drop> World<B, S> {

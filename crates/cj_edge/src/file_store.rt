@@ -21,6 +21,8 @@ pub struct FileStore<R> {
     path: String,
     standing: Standing,
     faults: u64,
+    /// The kind of the last error of the system.
+    cause: Option<ErrorKind>,
 }
 
 impl<R: Files<File = File>> FileStore<R> {
@@ -62,6 +64,16 @@ impl<R: Files<File = File>> FileStore<R> {
             path,
             standing,
             faults: 0,
+            cause: None,
+        }
+    }
+
+    /// Returns the kind of the last error: that of the last call that failed, or the one that each call meets since
+    /// the file can't be opened. `None` if there was none.
+    pub fn cause(&self) -> Option<ErrorKind> {
+        match (self.cause, &self.standing) {
+            (None, Standing::Refused(error)) => Some(error.kind()),
+            (cause, _) => cause,
         }
     }
 
@@ -101,10 +113,11 @@ impl<R: Files<File = File>> FileStore<R> {
         }
     }
 
-    fn count_fault(&mut self)
+    fn count_fault(&mut self, cause: ErrorKind)
         ensures { self.new.faults ≡ next self.old.faults }
     {
         self.faults = self.faults.saturating_add(1);
+        self.cause = Some(cause);
     }
 }
 
@@ -134,8 +147,12 @@ impl<R: Files<File = File>> Store for FileStore<R> {
     fn len(&mut self) -> Result<u64, Failed> {
         match self.standing.len() {
             Ok(len) if len <= MOST => Ok(len),
-            _ => {
-                self.count_fault();
+            Ok(_) => {
+                self.count_fault(ErrorKind::FileTooLarge);
+                Err(Failed)
+            }
+            Err(error) => {
+                self.count_fault(error.kind());
                 Err(Failed)
             }
         }
@@ -144,8 +161,8 @@ impl<R: Files<File = File>> Store for FileStore<R> {
     fn read_at(&mut self, at: u64, buf: &mut [u8]) -> Result<usize, Failed> {
         match self.standing.read_at(at, buf) {
             Ok(count) => Ok(count),
-            Err(_) => {
-                self.count_fault();
+            Err(error) => {
+                self.count_fault(error.kind());
                 Err(Failed)
             }
         }
@@ -154,8 +171,8 @@ impl<R: Files<File = File>> Store for FileStore<R> {
     fn write_at(&mut self, at: u64, bytes: &[u8]) -> Result<(), OutError> {
         match self.write(at, bytes) {
             Ok(()) => Ok(()),
-            Err(_) => {
-                self.count_fault();
+            Err(error) => {
+                self.count_fault(error.kind());
                 Err(OutError::Failed)
             }
         }
@@ -164,8 +181,8 @@ impl<R: Files<File = File>> Store for FileStore<R> {
     fn sync(&mut self) -> Result<(), Failed> {
         match self.standing.sync() {
             Ok(()) => Ok(()),
-            Err(_) => {
-                self.count_fault();
+            Err(error) => {
+                self.count_fault(error.kind());
                 Err(Failed)
             }
         }

@@ -1,5 +1,5 @@
 -- What contracts see of a flaky backend, and what its calls do to it.
-use Rattle.std.specs.Prelude.{◌≡◌, ◌⊎◌, ℕ, ◌+◌, ◌-◌, ◌^◌, min, Bool, true, false, List, IfOk, IfSome, Contains}
+use Rattle.std.specs.Prelude.{◌≡◌, ◌⊎◌, ℕ, ◌+◌, ◌-◌, ◌^◌, ◌<◌, ◌≤◌, min, Bool, true, false, List, [], IfOk, IfSome, Contains}
 use Rattle.std.specs.declared.option.Option.{Option}
 use Rattle.std.specs.declared.option.Option.TheVariants.{None}
 use Rattle.std.specs.declared.result.Result.{Result}
@@ -170,3 +170,15 @@ module _ {B : Type 0} where
   -- the faults counted here and in the inner backend together, up to the largest `u64`
   abbrev pub faults_by : (B → ℕ) → FlakyState B → ℕ
   faults_by faults s = min (s.faults + faults s.inner) (2 ^ 64 - 1)
+
+-- ---- faults and armings
+
+-- So many calls failed, and no more than the backend was armed. While it is armed, one more can fail; where the count
+-- of armings is at its greatest value, this says nothing.
+pub record FailsOnlyArmed (a : Arming) (faults : ℕ) : Type 0 where
+  pub within : faults ≤ a.times
+  pub left : a.armed ≡ true → (faults < a.times) ⊎ (a.times ≡ 2 ^ 64 - 1)
+
+-- where no call is listed, only armed calls failed here
+abbrev pub FailsOnlyAsked : {B : Type 0} → FlakyState B → Type 0
+FailsOnlyAsked s = s.fails ≡ [] → FailsOnlyArmed (arming_of s) s.faults

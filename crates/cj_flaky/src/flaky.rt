@@ -13,7 +13,8 @@ use std::marker::Model;
 /// listed or it is the next numbered call after `arm`. It then answers `Failed`, passes nothing on and
 /// counts one fault. If it is a change, a load among them, contracts do not see the contents until a load
 /// is carried out. Any other call gives what the inner backend gives, `Failed` included. Faults are counted
-/// together with those of the inner backend, up to 2^64 - 1.
+/// together with those of the inner backend, up to 2^64 - 1. Where no number is listed, no more calls failed
+/// here than the backend was armed.
 #[derive(Drop)]
 pub struct Flaky<B: Backend> {
     inner: B,
@@ -29,15 +30,18 @@ pub struct Flaky<B: Backend> {
 }
 
 impl<B: Backend> Model for Flaky<B> {
-    ghost use Rattle.cj_flaky.specs.FlakyBackends.{FlakyState};
+    ghost use Rattle.std.specs.Prelude.{◌≡◌, []};
+    ghost use Rattle.cj_flaky.specs.FlakyBackends.{FailsOnlyArmed, FlakyState};
 
     ghost Value = { FlakyState B };
 
     ghost view = { λ f. record { inner = f.inner; fails = f.fails; calls = f.calls; armed = f.armed; armings = f.armings; passed = f.passed; faults = f.faults } };
+
+    ghost invariant = { λ f. f.fails ≡ [] → FailsOnlyArmed (record { armed = f.armed; times = f.armings }) f.faults };
 }
 
 impl<B: Backend> Flaky<B> {
-    ghost use Rattle.cj_flaky.specs.FlakyBackends.{EntersAsListed, EntersChange, IsToFail, fresh_over, numbered};
+    ghost use Rattle.cj_flaky.specs.FlakyBackends.{EntersAsListed, EntersChange, FailsOnlyAsked, IsToFail, fresh_over, numbered};
 
     /// Wraps a backend; the calls whose numbers are in `fails` will fail.
     pub fn new(backend: B, fails: ListOf<u64>) -> Flaky<B>
@@ -69,6 +73,14 @@ impl<B: Backend> Flaky<B> {
         inner
     }
 
+    /// Shows that a backend without listed calls has failed no more often than it was armed. Faults of the
+    /// inner backend are not among those that are counted here.
+    pub fn legal(&self)
+        ensures { FailsOnlyAsked self.now }
+    {
+        let _ = &self.fails;
+    }
+
     /// Numbers the next call, and says whether it is to fail.
     fn is_next_to_fail(&mut self) -> bool
         ensures fails { IsTrue result ↔ IsToFail self.old }
@@ -85,6 +97,7 @@ impl<B: Backend> Flaky<B> {
     fn enter(&mut self) -> Result<(), BackendError>
         ensures { EntersAsListed self.old result self.new }
     {
+        self.legal();
         if self.is_next_to_fail() {
             self.faults = self.faults.saturating_add(1);
             return Err(BackendError::Failed);

@@ -1,15 +1,18 @@
-//! Backends that wrap another one: `Flaky` fails on command, `Gated` waits at a gate.
+//! Backends that wrap another one: `Flaky` and `Armable` fail on command, `Gated` waits at a gate.
 //!
-//! `Flaky` answers `Failed` to calls that are listed by number or armed, and passes every other call on. `Gated`
-//! waits before each query and write, and passes every call on. The contracts are those of `cj_backend`; `Flaky`
-//! also says which calls fail and what the inner backend makes of the others.
+//! `Flaky` answers `Failed` to calls that are listed by number or armed, and passes every other call on. `Armable` is
+//! a `Flaky` of which no call is listed. `legal` of both shows that no more calls failed then than were armed
+//! (`FailsOnlyArmed`). `Gated` waits before each query and write, and passes every call on. The contracts are those
+//! of `cj_backend`; `Flaky` also says which calls fail and what the inner backend makes of the others.
 //!
-//! A new call of `cj_backend` needs an implementation in both files. The crate has no proofs of its own. Read
+//! A new call of `cj_backend` needs an implementation in each file. The crate has no proofs of its own. Read
 //! `specs/FlakyBackends` first, in particular `FailsOrPasses`.
 #![tactic(auto)]
 
+mod armable;
 mod flaky;
 mod gated;
 
+pub use armable::Armable;
 pub use flaky::Flaky;
 pub use gated::{Gate, Gated};

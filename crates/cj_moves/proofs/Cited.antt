@@ -8,6 +8,7 @@ pub use Rattle.cj_cluster.specs.declared.moves.Moved.{Moved}
 pub use Rattle.cj_model.specs.declared.answer.Refusal.{Refusal}
 pub use Rattle.cj_moves.proofs.Giving.{can_count, gives_entry, gives_refusal, refusal_causes, refusal_want}
 pub use Rattle.cj_moves.proofs.Reading.{answered, answers_blame_none, answers_log_in, asks_same, failed, failures_blame, failures_log_in, is_behind, is_out, not_serving, tried_failed, unnoted}
+pub use Rattle.cj_moves.proofs.Refusing.{abort_want, mark_want, not_aborted, not_marked}
 pub use Rattle.cj_moves.specs.Counting.{answers_log_fault, log_faults_after, tells_fault}
 pub use Rattle.cj_moves.specs.Logins.{login_to_ask}
 pub use Rattle.cj_moves.specs.Proving.ReadParts.{RefusesOrStays}

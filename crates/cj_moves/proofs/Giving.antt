@@ -109,7 +109,7 @@ refusal_causes NoMemory before now counts = counts.uncounted (λ is. cc is)
 
 module _ (old new : WorldState) (same : IsSameWorldButLog (with_cache (with_core old new.core) new.cache) new) (follows : CacheFollowsLog old new) where
   -- the core as before leaves the world as before, but maybe for its log
-  same_core : new.core ≡ old.core → IsSameWorldButLog old new
+  pub same_core : new.core ≡ old.core → IsSameWorldButLog old new
   same_core core = parts follows
     where
       kept : new.cache ≡ old.cache → IsSameWorldButLog old new

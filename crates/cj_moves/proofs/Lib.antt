@@ -1,3 +1,5 @@
 pub mod Cited
 pub mod Giving
 pub mod Reading
+pub mod Refusing
+pub mod SameWorlds

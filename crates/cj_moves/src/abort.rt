@@ -7,10 +7,9 @@ ghost use Rattle.cj_state.specs.Worlds.{CacheFollowsLog, IsSameWorldButLog};
 ghost use Rattle.cj_moves.specs.Counting.{HasLogCauses};
 
 use crate::reason::why;
+use crate::refused::refused;
 use cj_backend::Backend;
-use cj_book::BookError;
 use cj_cluster::{Move, MoveError, Moved, Reason, Why};
-use cj_model::{LOG_FAULT, Refusal};
 use cj_outside::Store;
 use cj_state::State;
 
@@ -47,9 +46,6 @@ pub fn abort<B: Backend, S: Store>(state: &mut State<B, S>, tx: u64) -> Result<M
     };
     match state.schedule_abort(entry) {
         Ok(number) => Ok(Moved::Entry(number)),
-        Err(BookError::HistoryFull(_)) => Ok(Moved::Refused(state.history_full())),
-        Err(BookError::LogFault) => Ok(Moved::Refused(Refusal::of_code(LOG_FAULT))),
-        Err(BookError::NoMemory) => Err(MoveError::NoMemory),
-        Err(BookError::InProgress(_)) | Err(BookError::NoBackend) => unreachable!(),
+        Err(error) => refused(error),
     }
 }

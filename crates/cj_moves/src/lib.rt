@@ -24,6 +24,7 @@ mod mark;
 mod open;
 mod read;
 mod reason;
+mod refused;
 mod replay;
 mod schedule;
 

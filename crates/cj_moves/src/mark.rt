@@ -8,10 +8,10 @@ ghost use Rattle.cj_state.specs.Worlds.{IsSameWorldButLog};
 ghost use Rattle.cj_moves.specs.Counting.{HasLogCauses};
 
 use crate::reason::why;
+use crate::refused::refused;
 use cj_backend::Backend;
-use cj_book::BookError;
 use cj_cluster::{Move, MoveError, Moved, Reason, Why};
-use cj_model::{LOG_FAULT, Name, Refusal};
+use cj_model::Name;
 use cj_outside::Store;
 use cj_state::State;
 
@@ -45,9 +45,6 @@ pub fn mark<B: Backend, S: Store>(state: &mut State<B, S>, name: &Name) -> Resul
 {
     match state.mark(name) {
         Ok(after) => Ok(Moved::Marked(after)),
-        Err(BookError::HistoryFull(_)) => Ok(Moved::Refused(state.history_full())),
-        Err(BookError::LogFault) => Ok(Moved::Refused(Refusal::of_code(LOG_FAULT))),
-        Err(BookError::NoMemory) => Err(MoveError::NoMemory),
-        Err(BookError::InProgress(_)) | Err(BookError::NoBackend) => unreachable!(),
+        Err(error) => refused(error),
     }
 }

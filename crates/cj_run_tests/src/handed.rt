@@ -118,7 +118,7 @@ impl Handed {
         let words = words(alloc, command)?;
         let clock = FixedClock::new(1_700_000_000);
         let log = MemStore::new(self.log.to_vec(alloc)?, Vec::new(alloc));
-        Ok(run(
+        let ended = run(
             alloc,
             &words,
             &mut self.conf,
@@ -127,7 +127,8 @@ impl Handed {
             &mut self.output,
             &mut self.errors,
             &clock,
-        ))
+        );
+        Ok(ended.status)
     }
 
     /// What the command wrote to its output.

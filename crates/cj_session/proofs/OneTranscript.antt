@@ -26,19 +26,19 @@ rows_one a r q fed full (inr (inl x)) (inr (inl y)) = x.1 ∙ sym y.1
 rows_one a r q fed full (inr (inr x)) y = absurd (fed x)
 rows_one a r q fed full x (inr (inr y)) = absurd (full y)
 
-sent_one : (answer r q : Reply) → r ≢ refused_reply NO_MEMORY → q ≢ refused_reply NO_MEMORY → SendsReply answer r → SendsReply answer q → r ≡ q
+pub sent_one : (answer r q : Reply) → r ≢ refused_reply NO_MEMORY → q ≢ refused_reply NO_MEMORY → SendsReply answer r → SendsReply answer q → r ≡ q
 sent_one (Done count) r q fed full x y = x ∙ sym y
 sent_one (Rows a) r q fed full x y = rows_one a r q fed full x y
 sent_one (Stats hits misses) r q fed full x y = x ∙ sym y
 sent_one (Refused refusal) r q fed full x y = x ∙ sym y
 
 -- want of memory is sent as it is
-starved_sent : (answer r : Reply) → answer ≡ refused_reply NO_MEMORY → SendsReply answer r → r ≡ refused_reply NO_MEMORY
+pub starved_sent : (answer r : Reply) → answer ≡ refused_reply NO_MEMORY → SendsReply answer r → r ≡ refused_reply NO_MEMORY
 starved_sent answer r is sends = subst (λ (x : Reply). SendsReply x r → r ≡ refused_reply NO_MEMORY) (sym is) (λ (h : r ≡ refused_reply NO_MEMORY). h) sends
 
 -- ---- why a Query is stopped
 
-stopped_one : (tx : ℕ) (text : List ℕ) (r q : Reply) → r ≢ refused_reply NO_MEMORY → q ≢ refused_reply NO_MEMORY → IsRefusedBefore tx text r → IsRefusedBefore tx text q → r ≡ q
+pub stopped_one : (tx : ℕ) (text : List ℕ) (r q : Reply) → r ≢ refused_reply NO_MEMORY → q ≢ refused_reply NO_MEMORY → IsRefusedBefore tx text r → IsRefusedBefore tx text q → r ≡ q
 stopped_one tx text r q fed full (inl x) (inl y) = x.replied ∙ sym y.replied
 stopped_one tx text r q fed full (inl x) (inr (inl y)) = absurd (x.nothing y.request y.reads)
 stopped_one tx text r q fed full (inr (inl x)) (inl y) = absurd (y.nothing x.request x.reads)
@@ -51,7 +51,7 @@ stopped_one tx text r q fed full (inr (inr x)) y = absurd (fed x)
 stopped_one tx text r q fed full x (inr (inr y)) = absurd (full y)
 
 -- what is stopped takes no turn
-stopped_or_turned : (tx : ℕ) (text : List ℕ) (r : Reply) (s : Request) → r ≢ refused_reply NO_MEMORY → IsRefusedBefore tx text r → TextReadsAs text s → refusal_by_transaction tx (act_of s) ≡ None → ⊥
+pub stopped_or_turned : (tx : ℕ) (text : List ℕ) (r : Reply) (s : Request) → r ≢ refused_reply NO_MEMORY → IsRefusedBefore tx text r → TextReadsAs text s → refusal_by_transaction tx (act_of s) ≡ None → ⊥
 stopped_or_turned tx text r s fed (inl x) reads allowed = x.nothing s reads
 stopped_or_turned tx text r s fed (inr (inl x)) reads allowed =
     let same : x.request ≡ s = text_one text x.request s x.reads reads in
@@ -61,7 +61,7 @@ stopped_or_turned tx text r s fed (inr (inr x)) reads allowed = fed x
 
 -- ---- what is written
 
-rest_one : (front other rest last : List ℕ) → front ≡ other → front ++ rest ≡ other ++ last → rest ≡ last
+pub rest_one : (front other rest last : List ℕ) → front ≡ other → front ++ rest ≡ other ++ last → rest ≡ last
 rest_one front other rest last same e = append_cancel_left front rest last (e ∙ ap (λ (x : List ℕ). x ++ last) (sym same))
 
 fine_nil : fault_of [] ≡ None
@@ -94,13 +94,13 @@ so_one rest replies written other (inr (fault, faulty, x)) (inr (flaw, flawed, y
     let same : fault ≡ flaw = cc in
     x ∙ ap (λ (k : FrameFault). flat_map reply_bytes (replies ++ bad_frame_reply k ∷ [])) same ∙ sym y
 
-written_one : (rest : List ℕ) (replies : List Reply) (written other : List ℕ) (ending last : SessionEnd) → is_whole_end ending ≡ true → is_whole_end last ≡ true → EndsTranscript rest replies written ending → EndsTranscript rest replies other last → written ≡ other
+pub written_one : (rest : List ℕ) (replies : List Reply) (written other : List ℕ) (ending last : SessionEnd) → is_whole_end ending ≡ true → is_whole_end last ≡ true → EndsTranscript rest replies written ending → EndsTranscript rest replies other last → written ≡ other
 written_one rest replies written other ending last whole full x y = so_one rest replies written other (writes_so rest replies written ending whole x) (writes_so rest replies other last full y)
 
 -- ---- messages
 
 -- the reply of what a desk was asked
-abbrev reply_of : DeskCall → Reply → Reply
+abbrev pub reply_of : DeskCall → Reply → Reply
 reply_of (turn_taken c) r = c.reply
 reply_of query_skipped r = r
 reply_of (cache_counted hits misses) r = Stats hits misses

@@ -71,7 +71,7 @@ module _ {tells : Bool} {w : WorldState} {numbers : List ℕ} {tally : Tally} (k
     -- or why it did not
     pub errs : (tx : ℕ) (select : Select) (k new : BookState) (q : ℕ) (d : CellReadError) (e : AskError) → k.history ≡ old.core.history → Notes k number q b d e new → (IsErrOf {T = Asked × ℕ} (Err d) errors.Out ↔ (x.position ≡ None))
         → ((p : ℕ) → IsErrOf {T = Asked × ℕ} (Err d) (errors.Behind p) ↔ ((x.position ≡ Some p) × (p < least))) → Asks tells old.core number b tx select (Err e)
-    errs {S} tx select k new q d e is notes out behind =
+    errs tx select k new q d e is notes out behind =
         let far : d ≡ errors.Failed → IsFarEnough old.core number b = λ was. far_enough (Err d) (ap (λ (z : CellReadError). Err z) was) x.position refl out behind in
         notes_cases (λ (y : AskError) (z : BookState). Asks tells old.core number b tx select (Err y)) k new number q b d e notes (λ was. place ∙ out.0 (ap (λ (z : CellReadError). Err z) was))
         (λ p was. (let early = (behind p).0 (ap (λ (z : CellReadError). Err z) was) in (place ∙ early.0, subst (λ (m : ℕ). p < m) is_least early.1)))
@@ -84,7 +84,7 @@ module _ {tells : Bool} {w : WorldState} {numbers : List ℕ} {tally : Tally} (k
   -- under which login it was asked
   pub noted_logins : {How : CellState → CellState → Type 0} {now : List CellState} (ch : ChangesCell w.cells b How now) (k new : BookState) (s q : ℕ) (d : CellReadError) (e : AskError) (given : List ℕ) → Notes k s q b d e new
       → LogsInForRead ch.before.login given (Err d) ch.after.login → AskedUnderLogin b given (Err e) (logins_of old.cells) (logins_of now)
-  noted_logins {S} {How} {now} ch k new s q d e given notes logs =
+  noted_logins {How} {now} ch k new s q d e given notes logs =
       let by : (z : CellReadError) → d ≡ z → LogsInForRead ch.before.login given (Err z) ch.after.login = λ z is. subst (λ (y : CellReadError). LogsInForRead ch.before.login given (Err y) ch.after.login) is logs in
       let same = changed_logins kept seen within ch in
       let may = may_change_under kept seen within ch given in
@@ -94,21 +94,21 @@ module _ {tells : Bool} {w : WorldState} {numbers : List ℕ} {tally : Tally} (k
 -- what becomes of the core
 pub noted_core : (cells : List CellState) (f t : ℕ) (ss : List OpenSession) (ds : List Dump) (k new : BookState) (s q b : ℕ) (d : CellReadError) (e : AskError) (c : Core) → Notes k s q b d e new
     → core_of k.layout k.history cells f t ss k.greatest ds ≡ c → q ≡ read_number (session_at c s) → core_of new.layout new.history cells f t ss new.greatest ds ≡ asked_core c s b (Err e)
-noted_core {S} cells f t ss ds k new s q b d e c notes core number =
+noted_core cells f t ss ds k new s q b d e c notes core number =
     notes_cases (λ (y : AskError) (z : BookState). core_of z.layout z.history cells f t ss z.greatest ds ≡ asked_core c s b (Err y)) k new s q b d e notes (λ was. core) (λ p was. core) (λ was. core)
     (λ was space. ap (λ (z : Core). happened z (ReadFailed s q b)) core ∙ ap (λ (m : ℕ). happened c (ReadFailed s m b)) number) (λ was n full. core)
 
 -- whose fault was counted
 pub noted_fault : (old new : BookState) (s q b : ℕ) (d : CellReadError) (e : AskError) (before now : ℕ) → Notes old s q b d e new → CountsFault (IsErrOf {T = Asked × ℕ} (Err d) errors.Failed) before now
     → (failed : Bool) × (failed_asked b (Err e) ≡ cond failed (Some b) None) × (now ≡ cond failed (next before) before)
-noted_fault {S} old new s q b d e before now notes cause =
+noted_fault old new s q b d e before now notes cause =
     notes_cases (λ (y : AskError) (z : BookState). (failed : Bool) × (failed_asked b (Err y) ≡ cond failed (Some b) None) × (now ≡ cond failed (next before) before)) old new s q b d e notes
     (λ was. (false, refl, cause.uncounted (λ is. cc (was, is)))) (λ p was. (false, refl, cause.uncounted (λ is. cc (was, is)))) (λ was. (false, refl, cause.uncounted (λ is. cc (was, is))))
     (λ was space. (true, refl, cause.counted (ap (λ (z : CellReadError). Err z) was))) (λ was n full. (true, refl, cause.counted (ap (λ (z : CellReadError). Err z) was)))
 
 -- want of memory is the cell's alone
 pub noted_want : (old new : BookState) (s q b : ℕ) (d : CellReadError) (e : AskError) → Notes old s q b d e new → e ≡ ask_errors.NoMemory → (d ≡ errors.NoMemory) × (new ≡ old)
-noted_want {S} old new s q b d e notes =
+noted_want old new s q b d e notes =
     notes_cases (λ (y : AskError) (z : BookState). y ≡ ask_errors.NoMemory → (d ≡ errors.NoMemory) × (z ≡ old)) old new s q b d e notes
     (λ was is. absurd (cc is)) (λ p was is. absurd (cc is)) (λ was is. (was, refl)) (λ was space is. absurd (cc is)) (λ was n full is. absurd (cc is))
 

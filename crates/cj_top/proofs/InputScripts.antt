@@ -146,30 +146,26 @@ wrong_line names bytes taken behind last rest line lines whole is (inr h) short 
 wrong_line names bytes taken behind last rest line lines whole is (inr h) short each inside (inr (next, at_end)) (inl long) are = absurd (omega (arith, long, ap length (sym next ∙ h.1)))
 wrong_line names bytes taken behind last rest line lines whole is (inr h) short each inside (inr (next, at_end)) (inr (some, none)) are = absurd (some (sym next ∙ h.1))
 
-ends_at_line : (tells : Bool) (names : List (List ℕ)) (left left' held held' : Option (List ℕ)) (ending : ScriptEnd) (c z : WorldState) → CameTo tells true names left left' held held' c ending z → is_script_end_by_input ending ≡ true
-    → IfSome left (λ bytes. (lines : List (List ℕ)) (last : List ℕ) → AreLines bytes lines last → EndsAtLine names (is_short_input bytes) (lines ++ last ∷ []) ending)
-ends_at_line tells names None left' held held' ending c z came by = tt
-ends_at_line tells names (Some xs) None held held' end.Done c z came by = absurd came.played.consumed
-ends_at_line tells names (Some xs) (Some ys) held held' end.Done c z came by = λ whole last are.
+pub script_plays : (tells : Bool) (names : List (List ℕ)) (left left' held held' : Option (List ℕ)) (ending : ScriptEnd) (c z : WorldState) → CameTo tells true names left left' held held' c ending z → is_script_end_by_input ending ≡ true → PlaysInput names left ending
+script_plays tells names None left' held held' ending c z came by = tt
+script_plays tells names (Some xs) None held held' end.Done c z came by = absurd came.played.consumed
+script_plays tells names (Some xs) (Some ys) held held' end.Done c z came by = λ whole last are.
     let taken : xs ≡ came.taken = came.played.consumed ∙ ap (λ (t : List ℕ). came.taken ++ t) came.at_end ∙ append-nil came.taken in
     let few = came.few refl in
     let each = playable tells names came.lines c z came.played.written came.played.lines_are came.played.plays in (
       lt-ltb (length xs) most (omega (arith, ap length taken, few)),
       done_lines names (Some ys) came.taken last came.lines whole came.played.lie came.played.lines_are each (subst (λ (bytes : List ℕ). AreLines bytes whole last) taken are),
     )
-ends_at_line tells names (Some xs) None held held' (end.Line number) c z came by = absurd came.played.consumed
-ends_at_line tells names (Some xs) (Some ys) held held' (end.Line number) c z came by = λ whole last are.
+script_plays tells names (Some xs) None held held' (end.Line number) c z came by = absurd came.played.consumed
+script_plays tells names (Some xs) (Some ys) held held' (end.Line number) c z came by = λ whole last are.
     subst (IsFirstWrong names (whole ++ last ∷ [])) (sym came.before)
     (wrong_line names xs came.taken ys last came.rest came.line came.lines whole came.played.consumed came.played.lie came.played.lines_are
     (playable tells names came.lines c z came.played.written came.played.lines_are came.played.plays) came.inside came.next came.wrong are)
-ends_at_line tells names (Some xs) left' held held' end.ReadFault c z came by = absurd cc
-ends_at_line tells names (Some xs) left' held held' end.WriteFault c z came by = absurd cc
-ends_at_line tells names (Some xs) None held held' end.Spent c z came by = absurd came.played.consumed
-ends_at_line tells names (Some xs) (Some ys) held held' end.Spent c z came by = λ whole last are.
+script_plays tells names (Some xs) left' held held' end.ReadFault c z came by = absurd cc
+script_plays tells names (Some xs) left' held held' end.WriteFault c z came by = absurd cc
+script_plays tells names (Some xs) None held held' end.Spent c z came by = absurd came.played.consumed
+script_plays tells names (Some xs) (Some ys) held held' end.Spent c z came by = λ whole last are.
     let size = ap length came.played.consumed ∙ length-append came.taken ys in
     let all = came.count refl in
     le-ltb (length xs) most (omega (arith, size, all))
-ends_at_line tells names (Some xs) left' held held' end.NoMemory c z came by = absurd cc
-
-pub script_plays : (tells : Bool) (names : List (List ℕ)) (left left' held held' : Option (List ℕ)) (ending : ScriptEnd) (c z : WorldState) → CameTo tells true names left left' held held' c ending z → is_script_end_by_input ending ≡ true → PlaysInput names left ending
-script_plays tells names left left' held held' ending c z came by = record { by_input = by; as_read = ends_at_line tells names left left' held held' ending c z came by }
+script_plays tells names (Some xs) left' held held' end.NoMemory c z came by = absurd cc

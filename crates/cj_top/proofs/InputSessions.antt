@@ -1,5 +1,5 @@
 -- A session that ended by its input has answered all of it.
-use Rattle.std.proofs.Common.{◌≡◌, ℕ, ◌+◌, ◌-◌, ◌<◌, ◌≤◌, Bool, true, false, List, [], ◌∷◌, ◌++◌, length, take, All, Option, Some, None, refl, sym, ap, subst, ◌∙◌, arith, lit≤, append_assoc, append-nil, length-append}
+use Rattle.std.proofs.Common.{◌≡◌, ℕ, ◌+◌, ◌-◌, ◌<◌, ◌≤◌, Bool, true, false, List, [], ◌∷◌, ◌++◌, length, take, Option, Some, None, refl, sym, ap, subst, ◌∙◌, arith, lit≤, append_assoc, append-nil, length-append}
 use Rattle.std.specs.List.{flat_map, list_any, AllByRecursion}
 use Rattle.std.specs.Io.KnownBytes.{Appends, Consumes}
 use Rattle.cj_core.proofs.Common.{take-append-add, take_all}
@@ -190,12 +190,8 @@ module _ {S D : Type 0} (w : SessionSetting S D) (a : ClientState S D) (ending :
       by_rest (is_short_input xs) more (take most xs) rest messages t.rest t.so_far.messages t.replies written ending whole t.so_far.each t.so_far.no_quit
       (one_each w t.so_far.messages t.replies a t.last t.so_far.exchanges) t.ends by (fits_taken xs taken ys ending bytes reaches) f
 
-  pub session_answers : (Is : Reply → Type 0) (left left' held held' : Option (List ℕ)) (s : ServesSession w left left' held held' a ending desk draws) → is_end_by_input ending ≡ true → All Is s.transcript.replies
-      → AnswersInput Is left held held' ending
-  session_answers Is left left' held held' s by each = record {
-    by_input = by;
-    replies = s.transcript.replies;
-    each = each;
+  pub session_answers : (left left' held held' : Option (List ℕ)) (s : ServesSession w left left' held held' a ending desk draws) → is_end_by_input ending ≡ true → AnswersInput s.transcript.replies left held held' ending
+  session_answers left left' held held' s by = record {
     wrote = subst (λ (x : List ℕ). Appends held held' x) (sym (written_at_end s.transcript.rest s.transcript.replies s.written ending s.transcript.ends by)) s.wrote;
     as_read = read_as left left' s.taken s.written s.transcript s.bytes s.reaches by;
   }

@@ -1,9 +1,11 @@
+pub mod ArmedBackends
 pub mod AskedWords
 pub mod Cited
 pub mod Common
-pub mod Completed
 pub mod InputScripts
 pub mod InputSessions
+pub mod Longer
 pub mod NewBackends
 pub mod PlayedOver
+pub mod Statuses
 pub mod Unopened

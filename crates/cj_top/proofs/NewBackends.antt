@@ -93,11 +93,6 @@ sum_of_none (x ∷ xs) none =
     let later : sum xs ≡ 0 = sum_of_none xs (λ k. none (suc k)) in
     omega (arith, adds, first, later)
 
-pub none_at : {X : Type 0} (xs : List X) (k : ℕ) → ◌≡◌ {A = ℕ} (get_or (map (λ (x : X). 0) xs) k 0) 0
-none_at [] k = refl
-none_at (x ∷ xs) zero = refl
-none_at (x ∷ xs) (suc k) = none_at xs k
-
 -- what a backend has counted after a start, where it had counted nothing
 counted_few : (m n : Option ℕ) → n ≡ Some 0 → (m ≡ n) ⊎ (m ≡ option_map next n) → (d : ℕ) → unwrap_or m d < 2 ^ 64 - 1
 counted_few m n none (inl same) d = let is : unwrap_or m d ≡ 0 = ap (λ (o : Option ℕ). unwrap_or o d) (same ∙ none) in omega (arith, is)

@@ -1,5 +1,5 @@
--- Completeness: what is answered, and with which status, where nothing failed and memory was not wanting.
-use Rattle.std.specs.Prelude.{◌≡◌, ◌⊎◌, ℕ, ◌+◌, ◌-◌, ◌^◌, ◌<◌, ◌≤◌, Bool, true, false, if◌then◌else◌, List, [], ◌∷◌, ◌++◌, length, take, nat_lt, sum, All, IfSome, Result, Ok, Err}
+-- Completeness: what a session and a script have done that their input ended, and from which logs commands go on.
+use Rattle.std.specs.Prelude.{◌≡◌, ◌⊎◌, ℕ, ◌+◌, ◌<◌, ◌≤◌, Bool, true, false, if◌then◌else◌, List, [], ◌∷◌, ◌++◌, length, take, nat_lt, All, IfSome}
 use Rattle.std.specs.declared.option.Option.{Option}
 use Rattle.std.specs.declared.option.Option.TheVariants.{None, Some}
 use Rattle.std.specs.List.{flat_map, list_any}
@@ -11,36 +11,25 @@ use Rattle.cj_model.specs.Wire.Frames.{Frames, fault_of}
 use Rattle.cj_model.specs.Wire.Replies.{reply_bytes}
 use Rattle.cj_outside.specs.Lines.{IsInLine, line_limit}
 use Rattle.cj_outside.specs.Streams.{most}
+use Rattle.cj_model.specs.declared.limits.TheConstants.{SESSION_NUMBER_LIMIT}
+use Rattle.cj_cluster.specs.declared.event.Event.{Event}
 use Rattle.cj_cluster.specs.declared.moves.Move.{Move}
 use Rattle.cj_cluster.specs.declared.session.SessionEnd.{SessionEnd}
 use Rattle.cj_cluster.specs.declared.session.SessionEnd.TheVariants as ends
+use Rattle.cj_cluster.specs.History.Histories.{log}
 use Rattle.cj_cluster.specs.Script.Lines.{MoveLine, with_line_feed}
 use Rattle.cj_cluster.specs.Wire.Sessions.{answered_messages, is_quit}
-use Rattle.cj_conf.specs.Confs.{conf_of}
-use Rattle.cj_conf.specs.declared.conf.Conf.{Conf}
-use Rattle.cj_conf.specs.declared.error.ConfError.{ConfError}
-use Rattle.cj_core.specs.QuietCalls.{BlamesNobody, CanCountMore}
+use Rattle.cj_log.specs.declared.item.LogItem.{LogItem}
+use Rattle.cj_recovery.specs.Openings.{OpensTo}
+use Rattle.cj_book.specs.Starts.{greatest_session}
 use Rattle.cj_desk.specs.SessionTranscripts.{bad_frame_reply}
 use Rattle.cj_script.specs.Script.{IsWrong, audit_line}
 use Rattle.cj_script.specs.declared.play.ScriptEnd.{ScriptEnd}
 use Rattle.cj_script.specs.declared.play.ScriptEnd.TheVariants as script_ends
-use Rattle.cj_top.specs.Configured.{in_memory}
 use Rattle.cj_args.specs.declared.asked.Command.{Command}
 use Rattle.cj_args.specs.declared.asked.Command.TheVariants.{Pipe, Script, Log, Gen}
-use Rattle.cj_top.specs.Program.{status_of_script, status_of_session}
-use Rattle.cj_top.specs.Runs.{AreConfBytes}
 
--- ---- nothing failed
-
--- The count of faults stayed, and could have risen.
-pub record CountsNoFault (before now : ℕ) : Type 0 where
-  pub room : before < 2 ^ 64 - 1
-  pub same : now ≡ before
-
--- The same of the counts of all backends.
-pub record CountNoFaults (before now : List ℕ) : Type 0 where
-  pub room : CanCountMore before
-  pub same : sum now ≡ sum before
+-- ---- an input
 
 -- fewer bytes than are taken of one input at most
 abbrev pub is_short_input : List ℕ → Bool
@@ -58,7 +47,8 @@ abbrev pub end_by_rest : Option FrameFault → Bool → List ℕ → SessionEnd
 end_by_rest (Some fault) short rest = ends.BadFrame fault
 end_by_rest None short rest = if short then end_of_short rest else ends.Spent
 
--- How a session ends over an input that reads as these messages and this rest: by the first Quit; where there is none, by the rest.
+-- How a session ends over an input that reads as these messages and this rest: by the first Quit; where there is
+-- none, by the rest.
 abbrev pub end_of_reading : Bool → List Message → List ℕ → SessionEnd
 end_of_reading short messages rest = if list_any is_quit messages then ends.Quit else end_by_rest (fault_of rest) short rest
 
@@ -84,11 +74,9 @@ is_end_by_input ends.WriteFault = false
 is_end_by_input ends.Spent = true
 is_end_by_input ends.NoMemory = false
 
--- The session answered its whole input: one reply to each message before the first Quit, each such as `Is` says, and one to a faulty frame, all written whole. Where the input tells its bytes, they fix the end.
-pub record AnswersInput (Is : Reply → Type 0) (left held held' : Option (List ℕ)) (ending : SessionEnd) : Type 0 where
-  pub by_input : is_end_by_input ending ≡ true
-  pub replies : List Reply
-  pub each : All Is replies
+-- A session that its input ended answered all of it: with these replies, one to each message before the first Quit,
+-- and one to a faulty frame, all written whole. Where the input tells its bytes, they fix the end.
+pub record AnswersInput (replies : List Reply) (left held held' : Option (List ℕ)) (ending : SessionEnd) : Type 0 where
   pub wrote : Appends held held' (flat_map reply_bytes (replies ++ replies_at_end ending))
   pub as_read : IfSome left (λ bytes. (messages : List Message) (rest : List ℕ) → Frames (take most bytes) messages rest
       → (ending ≡ end_of_reading (is_short_input bytes) messages rest) × (length replies ≡ length (answered_messages messages)))
@@ -116,7 +104,8 @@ pub record IsFirstWrong (names : List (List ℕ)) (lines : List (List ℕ)) (num
   pub wrong : IsWrong names line
   pub number_is : number ≡ length before + 1
 
--- How a script ends over these lines: behind the last where each can be played, or at the first that can't. Over an input that isn't short it may end before either.
+-- How a script ends over these lines: behind the last where each can be played, or at the first that can't. Over an
+-- input that isn't short it may end before either.
 abbrev pub EndsAtLine : List (List ℕ) → Bool → List (List ℕ) → ScriptEnd → Type 0
 EndsAtLine names short lines script_ends.Done = (short ≡ true) × All (IsPlayable names) lines
 EndsAtLine names short lines (script_ends.Line number) = IsFirstWrong names lines number
@@ -134,39 +123,16 @@ is_script_end_by_input script_ends.WriteFault = false
 is_script_end_by_input script_ends.Spent = true
 is_script_end_by_input script_ends.NoMemory = false
 
--- The script was played as far as its input goes. Where the input tells its bytes, they fix the end.
-pub record PlaysInput (names : List (List ℕ)) (left : Option (List ℕ)) (ending : ScriptEnd) : Type 0 where
-  pub by_input : is_script_end_by_input ending ≡ true
-  pub as_read : IfSome left (λ bytes. (lines : List (List ℕ)) (last : List ℕ) → AreLines bytes lines last → EndsAtLine names (is_short_input bytes) (lines ++ last ∷ []) ending)
+-- A script that its input ended was played as far as that goes. Where the input tells its bytes, they fix the end.
+abbrev pub PlaysInput : (names : List (List ℕ)) (left : Option (List ℕ)) → ScriptEnd → Type 0
+PlaysInput names left ending = IfSome left (λ bytes. (lines : List (List ℕ)) (last : List ℕ) → AreLines bytes lines last → EndsAtLine names (is_short_input bytes) (lines ++ last ∷ []) ending)
 
--- ---- a command
+-- ---- a log
 
--- `pipe` with this status; no reply says that backends failed where all are in memory (`memory`), since those never do
-pub record PipesInput (memory : Bool) (left held held' : Option (List ℕ)) (status : ℕ) : Type 0 where
-  pub ending : SessionEnd
-  pub answers : AnswersInput (λ reply. memory ≡ true → BlamesNobody reply) left held held' ending
-  pub status_is : status ≡ status_of_session ending
-
--- `script` with this status, over backends of these names
-pub record ScriptsInput (names : List (List ℕ)) (left : Option (List ℕ)) (status : ℕ) : Type 0 where
-  pub ending : ScriptEnd
-  pub plays : PlaysInput names left ending
-  pub status_is : status ≡ status_of_script ending
-
--- what a command comes to by its configuration: where that is refused, to status 3
-abbrev pub ByConf : (Conf → Type 0) → ℕ → Result Conf ConfError → Type 0
-ByConf Comes status (Ok c) = Comes c
-ByConf Comes status (Err e) = status ≡ 3
-
--- the same by what the configuration's store holds
-pub record ByStore (tells : Bool) (held : List ℕ) (Comes : Conf → Type 0) (status : ℕ) : Type 0 where
-  pub bytes : List ℕ
-  pub are : AreConfBytes tells held bytes
-  pub comes : ByConf Comes status (conf_of bytes)
-
--- What a command comes to with this configuration where nothing failed, its log was opened and memory was not wanting. The input has `left`, and the output held `held`, and then `held'`.
-abbrev pub CompletesCommand : Command → (left held held' : Option (List ℕ)) (status : ℕ) → Conf → Type 0
-CompletesCommand (Pipe path) left held held' status c = PipesInput (in_memory c) left held held' status
-CompletesCommand (Script path) left held held' status c = ScriptsInput c.placement.names left status
-CompletesCommand (Log path) left held held' status c = status ≡ 0
-CompletesCommand (Gen path seed count) left held held' status c = status ≡ 0
+-- The command goes on from a log with these items: `log` lists any, and `gen` opens none. For `script` they open to a
+-- history, and for `pipe` to one that leaves the number of a session.
+abbrev pub GoesOnFrom : Command → List LogItem → Type 0
+GoesOnFrom (Pipe path) items = (h : List Event) × OpensTo items h × (greatest_session (log h) < SESSION_NUMBER_LIMIT)
+GoesOnFrom (Script path) items = (h : List Event) × OpensTo items h
+GoesOnFrom (Log path) items = Unit {0}
+GoesOnFrom (Gen path seed count) items = Unit {0}

@@ -50,7 +50,8 @@ pub record AreNew (tells : Bool) (count : ℕ) (backends : List BackendState) (b
 
 -- ---- the world that it makes
 
--- The world that a start makes of new backends, as a configuration has them, over the log that was found: each has replayed the log, and no session is open. `tells`: the backends tell what they hold.
+-- The world that a start makes of new backends, as a configuration has them, over the log that was found: each has
+-- replayed the log, and no session is open. `tells`: the backends tell what they hold.
 pub record BeginsAsConfigured (tells : Bool) (c : Conf) (found : List LogItem → Type 0) (w : WorldState) : Type 0 where
   pub setup : w.setup ≡ record { names = c.placement.names; accounts = c.accounts }
   pub starts : StartsFrom found (placement_of c.placement) (replicate (length c.placement.names) (new_backend tells)) w
@@ -68,7 +69,8 @@ last_word (first ∷ rest) = 32 ∷ first ∷ rest
 abbrev pub refusal_line : ConfError → List ℕ
 refusal_line e = with_line_feed (words (codes "configuration" ∷ codes "refused:" ∷ decimal (error_number e) ∷ []) ++ last_word (config_key_text e))
 
--- That line was written, and behind it an explanation; or the errors failed in it, which they counted, or memory was wanting. `before` and `now` are the errors' counts of faults.
+-- That line was written, and behind it an explanation; or the errors failed in it, which they counted, or memory was
+-- wanting. `before` and `now` are the errors' counts of faults.
 pub record WritesRefusal (errors errors' : Option (List ℕ)) (before now : ℕ) (e : ConfError) : Type 0 where
   pub explanation : List ℕ
   pub answer : Result (Unit {0}) OutError

@@ -16,6 +16,7 @@ pub record ListsLog (names : List (List ℕ)) (found : List LogItem → Type 0) 
   pub bytes : WritesAll held held' (listing names items) answer
   pub status_is : status ≡ status_of_listing answer
 
--- `log` with this configuration: the log was listed, or the command stopped at it
-abbrev pub ComesByLog : (c : Conf) (found : List LogItem → Type 0) (Stops : ℕ → Type 0) (held held' : Option (List ℕ)) → ℕ → Type 0
-ComesByLog c found Stops held held' status = ListsLog c.placement.names found held held' status ⊎ Stops status
+-- `log` with this configuration: the log was listed, or the command stopped at it. `Reads` says that it only read the
+-- log's store.
+abbrev pub ComesByLog : (c : Conf) (found : List LogItem → Type 0) (Reads Stops : ℕ → Type 0) (held held' : Option (List ℕ)) → ℕ → Type 0
+ComesByLog c found Reads Stops held held' status = Reads status × (ListsLog c.placement.names found held held' status ⊎ Stops status)

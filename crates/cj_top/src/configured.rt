@@ -1,6 +1,6 @@
 //! What a command is configured with.
 
-ghost use Rattle.std.specs.Prelude.{◌≡◌, ◌++◌, ◌∷◌, ℕ, List, [], codes, map, string_bytes, replicate, IfOk, IsErrOf, Ok, Err};
+ghost use Rattle.std.specs.Prelude.{◌≡◌, ◌++◌, ◌∷◌, ℕ, List, true, [], codes, map, string_bytes, replicate, IfOk, IsErrOf, Ok, Err};
 ghost use Rattle.std.specs.Fmt.{decimal};
 ghost use Rattle.std.specs.List.{list_all};
 ghost use Rattle.cj_model.specs.Cluster.Caching.{empty_cache};
@@ -21,34 +21,35 @@ use cj_book::BookParts;
 use cj_cache::Cache;
 use cj_conf::{BackendKind, Conf, ConfError, read_conf};
 use cj_core::{Backends, Parts};
-use cj_flaky::Flaky;
+use cj_flaky::Armable;
 use cj_lite::{AnyBackend, LiteBackend};
 use cj_mem::MemBackend;
-use cj_model::{ListOf, NoMemory};
+use cj_model::NoMemory;
 use cj_outside::{OutError, Sink, Store, StoreReadError, read_store, write_all};
 use std::alloc::Global;
 
 /// Why there is no configuration.
 #[derive(Drop)]
 pub enum Unconfigured {
-    /// Its store failed.
+    /// The configuration's store failed.
     Failed,
     Refused(ConfError),
     NoMemory,
 }
 
-/// Whether all are in memory.
+/// Whether backends of these kinds are all in memory.
 pub fn are_in_memory(kinds: &[BackendKind]) -> bool
     ensures { result ≡ list_all configured.is_memory kinds.now }
 {
     kinds.iter().all(|kind| matches!(kind, BackendKind::Memory))
 }
 
-/// The configuration that the store holds.
+/// Reads the configuration that the store holds. What the store holds stays.
 pub fn conf_of<F: Store>(alloc: Global, store: &mut F) -> Result<Conf, Unconfigured>
     ensures accepted { IfOk result (λ conf. (bytes : List ℕ) × AreConfBytes F.tells (F.held store.old) bytes × (conf_of bytes ≡ Ok conf)) }
     ensures refused { (e : ConfError) → IsErrOf result (unconfigured.Refused e) → (bytes : List ℕ) × AreConfBytes F.tells (F.held store.old) bytes × (conf_of bytes ≡ Err e) }
     ensures usable { IfOk result IsUsable }
+    ensures store { F.tells ≡ true → F.held store.new ≡ F.held store.old }
     ensures cause { CountsFault (IsErrOf result unconfigured.Failed) (F.faults store.old) (F.faults store.new) }
 {
     let bytes = match read_store(alloc, store) {
@@ -65,7 +66,7 @@ pub fn conf_of<F: Store>(alloc: Global, store: &mut F) -> Result<Conf, Unconfigu
 
 // ---- what is made of it
 
-/// What a world is made of, as the configuration has it.
+/// Makes of a configuration what a world is made of beside its backends. The cache is empty.
 pub fn parts_of(alloc: Global, conf: Conf) -> Result<Parts, NoMemory>
     requires { IsUsable conf }
     ensures placement { IfOk result (λ parts. parts.book.placement ≡ conf.placement) }
@@ -90,7 +91,7 @@ pub fn parts_of(alloc: Global, conf: Conf) -> Result<Parts, NoMemory>
     })
 }
 
-/// So many empty backends in memory.
+/// Makes so many empty backends in memory.
 pub fn memory_backends(alloc: Global, count: u8) -> Result<Backends<MemBackend>, NoMemory>
     ensures { IfOk result (λ backends. backends ≡ replicate count fresh_state) }
 {
@@ -101,7 +102,7 @@ pub fn memory_backends(alloc: Global, count: u8) -> Result<Backends<MemBackend>,
     Ok(backends)
 }
 
-/// An empty backend of the kind.
+/// Makes an empty backend of the kind.
 fn any_backend(alloc: Global, kind: BackendKind) -> Result<AnyBackend, NoMemory>
     ensures { IfOk result (λ backend. backend ≡ configured.new_of kind) }
 {
@@ -111,7 +112,7 @@ fn any_backend(alloc: Global, kind: BackendKind) -> Result<AnyBackend, NoMemory>
     }
 }
 
-/// An empty backend of each kind, in this order.
+/// Makes an empty backend of each kind, in the order of the kinds.
 pub fn any_backends(alloc: Global, kinds: &[BackendKind]) -> Result<Backends<AnyBackend>, NoMemory>
     ensures { IfOk result (λ backends. backends ≡ map configured.new_of kinds.now) }
 {
@@ -122,16 +123,16 @@ pub fn any_backends(alloc: Global, kinds: &[BackendKind]) -> Result<Backends<Any
     Ok(backends)
 }
 
-/// The backends, each so that it can be armed.
+/// Wraps each of the backends so that it can be armed.
 pub fn flaky<B: Backend + Drop>(
     alloc: Global,
     backends: Backends<B>,
-) -> Result<Backends<Flaky<B>>, NoMemory>
+) -> Result<Backends<Armable<B>>, NoMemory>
     ensures { IfOk result (λ over. over ≡ map (λ b. fresh_over b []) backends) }
 {
     let mut over = Backends::new(alloc);
     for backend in backends.into_vec() {
-        over.push(Flaky::new(backend, ListOf::new(alloc)))?;
+        over.push(Armable::new(alloc, backend))?;
     }
     Ok(over)
 }
@@ -159,7 +160,7 @@ fn first_line(alloc: Global, error: &ConfError) -> Result<Vec<u8>, NoMemory>
     Ok(line)
 }
 
-/// That line, and one that says in plain words what is wrong.
+/// The line that tells the refusal, and behind it a line that says in plain words what is wrong.
 fn explained(alloc: Global, error: &ConfError) -> Result<Vec<u8>, NoMemory>
     ensures { IfOk result (λ text. (explanation : List ℕ) × (text.items ≡ refusal_line error.now ++ explanation)) }
 {
@@ -178,7 +179,7 @@ fn write_refusal<E: Sink>(alloc: Global, error: &ConfError, errors: &mut E) -> R
     }
 }
 
-/// Tells the refusal. That this fails changes nothing else.
+/// Tells the errors why a configuration is refused. Where they fail, nothing else changes.
 pub fn tell_refusal<E: Sink>(alloc: Global, error: &ConfError, errors: &mut E)
     ensures { WritesRefusal (E.held errors.old) (E.held errors.new) (E.faults errors.old) (E.faults errors.new) error.now }
 {

@@ -3,8 +3,8 @@
 /// The files that a command names.
 #[derive(Clone, Copy)]
 pub struct Paths<'a> {
-    /// That of its configuration.
+    /// The file of the configuration.
     pub conf: &'a str,
-    /// Where it accepts connections, which no command does yet.
+    /// The address at which connections are accepted; no command does so yet.
     pub address: Option<&'a str>,
 }

@@ -42,7 +42,8 @@ fn write_bad_entry<E: Sink>(alloc: Global, number: u64, errors: &mut E) -> Resul
     }
 }
 
-/// The exit status of a command whose log was not opened, which is told where its bytes are no log's. That this fails changes nothing else.
+/// Answers the exit status of a command whose log was not opened. Where the log's bytes are no log's, the errors are
+/// told so. Where they fail in that, nothing else changes.
 pub fn stop_at_log<E: Sink>(alloc: Global, error: StartError, errors: &mut E) -> u8
     ensures status { result ≡ status_of_start error }
     ensures told { TellsRefusal (E.held errors.old) (E.held errors.new) (E.faults errors.old) (E.faults errors.new) error }

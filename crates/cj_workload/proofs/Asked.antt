@@ -1,8 +1,10 @@
 -- What the backends of a mask were asked for.
-use Rattle.std.proofs.Common.{◌≡◌, ◌∙◌, refl, sym, ap, subst, ℕ, ◌+◌, ◌<◌, true, List, ◌∷◌, ◌++◌, length, map, Option, Some, arith}
+use Rattle.std.proofs.Common.{◌≡◌, ◌∙◌, refl, sym, ap, subst, ℕ, ◌+◌, ◌<◌, true, List, [], ◌∷◌, ◌++◌, length, map, Option, Some, Ok, arith}
 use Rattle.std.specs.Prelude.{IfSome, slice_get, option_map}
+use Rattle.std.proofs.lemmas.List.{map-append}
 use Rattle.std.proofs.lemmas.Option.{slice_get-map, slice_get_read}
 use Rattle.std.proofs.Math.Seq.{get_or-append_seam}
+use Rattle.cj_backend.specs.Backends.{Arming, HasBackendCause, SpendsArming}
 use Rattle.cj_workload.proofs.Common.{EachHolds, in_mask, length-append, length-map, rows_in, Slot, Value}
 
 module _ {B : Type 0} (told : B → Option (List Slot)) (before rest items : List B) (x : B) (all : before ++ (x ∷ rest) ≡ items) where
@@ -26,3 +28,18 @@ module _ {B : Type 0} (told : B → Option (List Slot)) (before rest items : Lis
       let is : told x ≡ Some held.0 = let e = told_there in let f = held.1 in cc in
       let same : db ≡ held.0 = subst (λ (o : Option (List Slot)). IfSome o (λ h. db ≡ h)) is answer in
       ap rows_in same ∙ held.2
+
+-- ---- backends that are given back
+
+-- one more is given back, of which the same is seen
+pub same_pushed : {B : Type 0} (seen : B → ℕ) (asked before : List B) (x y : B) → map seen asked ≡ map seen before → seen y ≡ seen x → map seen (asked ++ y ∷ []) ≡ map seen (before ++ x ∷ [])
+same_pushed seen asked before x y same one =
+    map-append seen asked (y ∷ []) ∙ (ap (λ (l : List ℕ). l ++ seen y ∷ []) same ∙ (ap (λ (n : ℕ). map seen before ++ n ∷ []) one ∙ sym (map-append seen before (x ∷ []))))
+
+-- a call that is answered counts no fault
+pub none_counted : {T : Type 0} (before now : ℕ) (x : T) → HasBackendCause before now (Ok x) → now ≡ before
+none_counted before now x cause = cause.uncounted (λ e. cc e)
+
+-- and arms nothing
+pub none_armed : {T : Type 0} (before now : Arming) (x : T) → SpendsArming before now (Ok x) → now.times ≡ before.times
+none_armed before now x spends = ap (λ (a : Arming). a.times) spends.after

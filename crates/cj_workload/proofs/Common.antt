@@ -5,7 +5,7 @@ pub use Rattle.cj_model.specs.Cluster.Placements.{Placement, hosts, part}
 pub use Rattle.cj_model.specs.Sql.WrittenRequests.{IsWritten}
 pub use Rattle.cj_model.specs.declared.database.Slot.{Slot}
 pub use Rattle.cj_model.specs.declared.value.Value.{Value}
-pub use Rattle.cj_workload.specs.Holdings.{AreSame, EachHolds, first_count, row_count, rows_in}
+pub use Rattle.cj_workload.specs.Holdings.{AreSame, EachHolds, first_count, row_count, rows_in, times_armed}
 pub use Rattle.cj_workload.specs.Proving.Keeping.{KeepsSolo}
 pub use Rattle.cj_workload.specs.Statements.{generator_behind, table_name}
 pub use Rattle.cj_workload.specs.Workloads.{PlaysRounds, first_host}

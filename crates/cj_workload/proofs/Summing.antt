@@ -1,7 +1,8 @@
 -- What is summed up of the backends that a world hands back.
 use Rattle.std.proofs.Common.{◌≡◌, ◌≢◌, ◌∙◌, ◌⊎◌, ⊎_elim, inl, inr, refl, sym, ap, ℕ, zero, suc, ◌+◌, ◌<◌, ◌≤◌, ◌^◌, ◌&&◌, Bool, true, false, cond, List, [], ◌∷◌, length, map, Option, None, Some, bit_and, nat_lt, arith}
 use Rattle.cj_core.proofs.Common.{All-head, All-tail, BackendState, CellState, IsWorld, WorldState, started_backend, has-zero, some_bit, state_by}
-use Rattle.cj_workload.proofs.Common.{All, and_parts, AreSame, both_ways, EachHolds, eq-or-lt_of_le, faults_of, find, first_count, first_host, hosts, in_mask, length-map, ltb-true, MatchOption, option_map, part, Placement, range_with_len, row_count, rows_in, slice_get, Slot, table_name, Value}
+use Rattle.cj_state.specs.ArmedCells.{armings_of}
+use Rattle.cj_workload.proofs.Common.{All, and_parts, AreSame, both_ways, EachHolds, eq-or-lt_of_le, faults_of, find, first_count, first_host, hosts, in_mask, length-map, ltb-true, MatchOption, option_map, part, Placement, range_with_len, row_count, rows_in, slice_get, Slot, table_name, times_armed, Value}
 use Rattle.cj_model.proofs.MaskBits.{has-and}
 use Rattle.cj_model.proofs.PartLaws.{found_in_part}
 use Rattle.cj_backend.specs.Backends.{Arming}
@@ -13,14 +14,26 @@ counts_seen : (cells : List CellState) → map (λ (s : BackendState). s.faults)
 counts_seen [] = refl
 counts_seen (x ∷ cells) = ap (λ (ns : List ℕ). x.faults ∷ ns) (counts_seen cells)
 
+times_seen : (cells : List CellState) → map (λ (s : BackendState). s.arming.times) (map started_backend cells) ≡ armings_of cells
+times_seen [] = refl
+times_seen (x ∷ cells) = ap (λ (ns : List ℕ). x.arming.times ∷ ns) (times_seen cells)
+
 module _ {X : Type 0} (told : X → Option (List Slot)) (faults asks : X → ℕ) (login : X → Option (List ℕ)) (arming : X → Arming) where
   counts_by : (xs : List X) → map (λ (s : BackendState). s.faults) (map (state_by told faults asks login arming) xs) ≡ map faults xs
   counts_by [] = refl
   counts_by (x ∷ xs) = ap (λ (ns : List ℕ). faults x ∷ ns) (counts_by xs)
 
+  times_by : (xs : List X) → map (λ (s : BackendState). s.arming.times) (map (state_by told faults asks login arming) xs) ≡ times_armed arming xs
+  times_by [] = refl
+  times_by (x ∷ xs) = ap (λ (ns : List ℕ). (arming x).times ∷ ns) (times_by xs)
+
   -- the backends count what their cells did
   pub same_counts : (cells : List CellState) (xs : List X) → map (state_by told faults asks login arming) xs ≡ map started_backend cells → map faults xs ≡ faults_of cells
   same_counts cells xs same = sym (counts_by xs) ∙ (ap (map (λ (s : BackendState). s.faults)) same ∙ counts_seen cells)
+
+  -- they were armed as often
+  pub same_times : (cells : List CellState) (xs : List X) → map (state_by told faults asks login arming) xs ≡ map started_backend cells → times_armed arming xs ≡ armings_of cells
+  same_times cells xs same = sym (times_by xs) ∙ (ap (map (λ (s : BackendState). s.arming.times)) same ∙ times_seen cells)
 
   -- and there are as many
   pub as_many : (cells : List CellState) (xs : List X) → map (state_by told faults asks login arming) xs ≡ map started_backend cells → length xs ≡ length cells

@@ -15,7 +15,10 @@ use Rattle.cj_cluster.specs.History.Histories.{masks_of_end, masks_of_ends}
 use Rattle.cj_cluster.specs.History.Turns.{Call, entry_of_call}
 use Rattle.cj_desk.specs.DeskStates.{next_call, turn_taken}
 use Rattle.cj_moves.specs.Counting.{log_faults_after}
-use Rattle.cj_core.specs.Solos.{AddsEntry, AddsOwnEvents, EndsStarving, SoloSteps, desk_of, log_failure_of, mask_with, tells_log_failure}
+use Rattle.cj_calls.specs.OwnEvents.{AddsEntry, AddsOwnEvents, log_failure_of, tells_log_failure}
+use Rattle.cj_calls.specs.Entries.{EndsStarving}
+use Rattle.cj_core.specs.Solos.{SoloSteps, desk_of}
+use Rattle.cj_calls.specs.CalledBackends.{mask_with}
 use Rattle.cj_workload.proofs.Common.{session_at, SoloState}
 use Rattle.cj_workload.proofs.Kept.{grown}
 use Rattle.cj_workload.specs.Proving.Keeping.{KeepsSolo}

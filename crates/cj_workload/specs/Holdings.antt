@@ -1,8 +1,9 @@
--- What backends hold of the workload's table.
-use Rattle.std.specs.Prelude.{◌≡◌, ℕ, ◌<◌, true, List, [], ◌∷◌, length, All, slice_get}
+-- What backends hold of the workload's table, and how often they were armed.
+use Rattle.std.specs.Prelude.{◌≡◌, ℕ, ◌<◌, true, List, [], ◌∷◌, length, map, All, slice_get}
 use Rattle.std.specs.declared.option.Option.{Option}
 use Rattle.std.specs.declared.option.Option.TheVariants.{None, Some}
 use Rattle.std.specs.Option.{option_map}
+use Rattle.cj_backend.specs.Backends.{Arming}
 use Rattle.cj_model.specs.declared.value.Value.{Value}
 use Rattle.cj_model.specs.declared.database.Slot.{Slot}
 use Rattle.cj_model.specs.Cluster.Masks.{in_mask}
@@ -31,3 +32,7 @@ AreSame (first ∷ others) = All (λ db. rows_in db ≡ rows_in first) others
 -- each backend of the mask tells that it holds these rows
 abbrev pub EachHolds : ℕ → List (Option (List Slot)) → Option (List (List Value)) → Type 0
 EachHolds mask told rows = (b : ℕ) → b < length told → in_mask mask b ≡ true → (db : List Slot) × (slice_get told b ≡ Some (Some db)) × (rows_in db ≡ rows)
+
+-- how often each of these backends was armed
+abbrev pub times_armed : {B : Type 0} → (B → Arming) → List B → List ℕ
+times_armed arming backends = map (λ b. (arming b).times) backends

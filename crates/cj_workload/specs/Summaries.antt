@@ -1,14 +1,16 @@
 -- What a workload comes to.
-use Rattle.std.specs.Prelude.{◌≡◌, ℕ, ◌+◌, ◌-◌, ◌^◌, min, sum, Bool, true, false, List, count_by, MatchOption}
+use Rattle.std.specs.Prelude.{◌≡◌, ℕ, ◌+◌, ◌-◌, ◌^◌, min, sum, Bool, true, false, List, count_by, map, MatchOption}
 use Rattle.cj_cluster.specs.declared.event.Event.{Event}
 use Rattle.cj_cluster.specs.declared.event.Event.TheVariants.{Sched, Ended, ReadFailed, LogFailed, Disabled, Enabled, Marker}
 use Rattle.cj_cluster.specs.History.Histories.{log, database_of}
 use Rattle.cj_cluster.specs.Moves.Moves.{last_number}
+use Rattle.cj_backend.specs.Backends.{Arming}
+use Rattle.cj_state.specs.ArmedCells.{armings_of}
 use Rattle.cj_state.specs.Faults.{faults_of}
 use Rattle.cj_state.specs.Worlds.{WorldState}
 use Rattle.cj_core.specs.Solos.{SoloState}
 use Rattle.cj_workload.specs.declared.summary.Summary.{Summary}
-use Rattle.cj_workload.specs.Holdings.{row_count, rows_in}
+use Rattle.cj_workload.specs.Holdings.{row_count, rows_in, times_armed}
 use Rattle.cj_workload.specs.Workloads.{BeginsWorkload, PlaysRounds, first_host, session_opened}
 
 -- ---- the history
@@ -51,3 +53,10 @@ pub record PlaysWorkload (tells armable : Bool) (seed count : ℕ) (first : Worl
   pub rounds : PlaysRounds tells armable seed count begun ended
   pub log_faults : ended.world.recovery_log.faults ≡ first.recovery_log.faults
   pub summary : IsSummary tells count begun.world ended.world s
+
+-- ---- the backends
+
+-- These backends have counted as many faults as the world says, and were armed as often.
+pub record HaveCountsOf {B : Type 0} (faults : B → ℕ) (arming : B → Arming) (backends : List B) (w : WorldState) : Type 0 where
+  pub failed : map faults backends ≡ faults_of w.cells
+  pub armed : times_armed arming backends ≡ armings_of w.cells

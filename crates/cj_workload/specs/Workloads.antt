@@ -21,7 +21,9 @@ use Rattle.cj_desk.specs.DeskStates.{next_call, turn_taken}
 use Rattle.cj_state.specs.Worlds.{WorldState}
 use Rattle.cj_state.specs.Effects.{with_core}
 use Rattle.cj_core.specs.Played.{MovesWorld}
-use Rattle.cj_core.specs.Solos.{EndsStarving, SoloState, SoloSteps, desk_of, tells_log_failure}
+use Rattle.cj_calls.specs.Entries.{EndsStarving}
+use Rattle.cj_core.specs.Solos.{SoloState, SoloSteps, desk_of}
+use Rattle.cj_calls.specs.OwnEvents.{tells_log_failure}
 use Rattle.cj_workload.specs.Statements.{creation, next_statement, table_name}
 
 -- ---- want of memory, which ends a workload

@@ -6,7 +6,7 @@ ghost use Rattle.cj_model.specs.declared.limits.TheConstants.{BACKEND_LIMIT};
 ghost use Rattle.cj_model.specs.declared.value.Value.{Value};
 ghost use Rattle.cj_model.specs.Cluster.Masks.{in_mask};
 ghost use Rattle.cj_workload.specs.Holdings as spec;
-ghost use Rattle.cj_workload.specs.Holdings.{AreSame, EachHolds, first_count};
+ghost use Rattle.cj_workload.specs.Holdings.{AreSame, EachHolds, first_count, times_armed};
 
 use crate::statements::table;
 use cj_backend::{Backend, BackendError};
@@ -40,26 +40,31 @@ fn has_same(one: &Db, other: &Db) -> bool
     }
 }
 
-/// Asks each backend of the mask for its contents, in the order of numbers. Stops at the first that fails.
+/// Asks each backend of the mask for its contents, in the order of numbers, and gives the backends back. They have
+/// counted no fault more, and were armed as often as before. Stops at the first that fails.
 pub fn ask_each<B: Backend + Drop>(
     alloc: Global,
     backends: Vec<B>,
     mask: u32,
-) -> Result<ListOf<Db>, BackendError>
+) -> Result<(ListOf<Db>, ListOf<B>), BackendError>
     requires { length backends.items ≤ BACKEND_LIMIT }
-    ensures same { (rows : Option (List (List Value))) → EachHolds mask (map B.told backends.items) rows → IfOk result (λ held. All (λ db. spec.rows_in db ≡ rows) held) }
-    ensures some { (b : ℕ) → b < length backends.items → in_mask mask b ≡ true → IfOk result (λ held. 0 < length held) }
-    ensures none { ((b : ℕ) → in_mask mask b ≡ false) → IfOk result (λ held. held ≡ []) }
+    ensures same { (rows : Option (List (List Value))) → EachHolds mask (map B.told backends.items) rows → IfOk result (λ (held, _). All (λ db. spec.rows_in db ≡ rows) held) }
+    ensures some { (b : ℕ) → b < length backends.items → in_mask mask b ≡ true → IfOk result (λ (held, _). 0 < length held) }
+    ensures none { ((b : ℕ) → in_mask mask b ≡ false) → IfOk result (λ (held, _). held ≡ []) }
+    ensures faults { IfOk result (λ (_, asked). map B.faults asked ≡ map B.faults backends.items) }
+    ensures armings { IfOk result (λ (_, asked). times_armed B.arming asked ≡ times_armed B.arming backends.items) }
 {
     let mut held = ListOf::new(alloc);
+    let mut asked = ListOf::new(alloc);
     let mut b: u8 = 0;
     for mut backend in backends {
         if has_bit(mask, b) {
             held.push(backend.contents()?)?;
         }
+        asked.push(backend)?;
         b += 1;
     }
-    Ok(held)
+    Ok((held, asked))
 }
 
 /// Whether all of these databases have the rows of the workload's table that another one has.

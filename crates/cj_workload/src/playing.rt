@@ -7,10 +7,10 @@ ghost use Rattle.cj_model.specs.Sql.PlainRequests.{request_of};
 ghost use Rattle.cj_model.specs.Sql.WrittenRequests.{IsWritten};
 ghost use Rattle.cj_cluster.specs.History.Histories.{is_free};
 ghost use Rattle.cj_cluster.specs.Moves.Cores.{session_at};
-ghost use Rattle.cj_core.specs.Solos as solos;
+ghost use Rattle.cj_calls.specs.OwnEvents as own_events;
 ghost use Rattle.cj_workload.specs.Proving.Keeping.{IsOutside, KeepsSolo};
 ghost use Rattle.cj_workload.specs.Statements.{request_of_statement};
-ghost use Rattle.cj_workload.specs.Summaries.{PlaysWorkload};
+ghost use Rattle.cj_workload.specs.Summaries.{HaveCountsOf, PlaysWorkload};
 ghost use Rattle.cj_workload.specs.Workloads as workload;
 ghost use Rattle.cj_workload.specs.Workloads.{BeginsWorkload, PlaysRound, PlaysRounds, TakesTurn};
 
@@ -18,7 +18,7 @@ use crate::moving::{arm, first_host, repair_each, take_dump};
 use crate::statements::{Statement, creation, next_statement};
 use crate::summary::{Summary, sum_up};
 use cj_backend::Backend;
-use cj_core::{Solo, World};
+use cj_core::{Backends, Solo, World};
 use cj_desk::Desk;
 use cj_model::{Act, LOG_FAULT, NO_MEMORY, NoMemory, Reply, STARVED_ALL, Select, Text};
 use cj_outside::{PcgDraw, Store};
@@ -61,10 +61,10 @@ impl From<NoMemory> for Stop {
 }
 
 impl From<Stop> for WorkloadError {
-    ghost use Rattle.std.specs.Prelude.{◌≢◌};
+    ghost use Rattle.std.specs.Prelude.{◌≡◌, ◌⊎◌};
     ghost use Rattle.cj_workload.specs.declared.playing.WorkloadError.TheVariants as errors;
 
-    ghost from_gives = { λ _ e. e ≢ errors.SessionsFull };
+    ghost from_gives = { λ _ e. (e ≡ errors.LogFault) ⊎ (e ≡ errors.NoMemory) };
 
     fn from(stop: Stop) -> WorkloadError {
         match stop {
@@ -96,7 +96,7 @@ fn tells_want(reply: &Reply) -> bool
 
 /// Whether the reply says that the log's store failed.
 fn tells_log_failure(reply: &Reply) -> bool
-    ensures { result ≡ solos.tells_log_failure reply.now }
+    ensures { result ≡ own_events.tells_log_failure reply.now }
 {
     match reply {
         Reply::Refused(refusal) => refusal.code == LOG_FAULT,
@@ -107,7 +107,7 @@ fn tells_log_failure(reply: &Reply) -> bool
 /// Goes on after this reply, unless it says that memory was wanting or that the log's store failed.
 fn go_on(reply: &Reply) -> Result<(), Stop>
     ensures fed { OnOk result (workload.tells_want reply.now ≡ false) }
-    ensures logged { OnOk result (solos.tells_log_failure reply.now ≡ false) }
+    ensures logged { OnOk result (own_events.tells_log_failure reply.now ≡ false) }
 {
     if tells_want(reply) {
         return Err(Stop::NoMemory);
@@ -237,7 +237,8 @@ fn begin<B: Backend, S: Store>(
     }
 }
 
-/// Plays the workload of `count` statements, drawn from the seed, by a session of its own, and sums it up.
+/// Plays the workload of `count` statements, drawn from the seed, by a session of its own, and sums it up. Gives the
+/// backends back.
 ///
 /// A table is made, and its first host is dumped. Then the statements are asked for, one after another.
 /// Before some of them a backend is armed. After each one the backends that are out are brought back from the dump.
@@ -249,11 +250,11 @@ pub fn play<B: Backend + Drop, S: Store + Drop>(
     world: World<B, S>,
     seed: u64,
     count: u64,
-) -> Result<Summary, WorkloadError>
+) -> Result<(Summary, Backends<B>), WorkloadError>
     requires fresh { world.core.sessions ≡ [] }
     requires idle { is_free world.core.history ≡ true }
     requires few { count < 2 ^ 32 }
-    ensures played { IfOk result (PlaysWorkload B.tells B.can_be_armed seed count world) }
+    ensures played { IfOk result (λ (summary, backends). (plays : PlaysWorkload B.tells B.can_be_armed seed count world summary) × HaveCountsOf B.faults B.arming backends plays.ended.world) }
     ensures full { IsErrOf result WorkloadError.SessionsFull → SESSION_NUMBER_LIMIT ≤ world.core.greatest }
 {
     world.legal();
@@ -263,6 +264,6 @@ pub fn play<B: Backend + Drop, S: Store + Drop>(
     let user = nobody(alloc);
     begin(&mut solo, alloc, &user)?;
     let enabled = rounds(&mut solo, alloc, &user, seed, count)?;
-    let summary = sum_up(alloc, solo.close(), count, enabled)?;
-    Ok(summary)
+    let (summary, backends) = sum_up(alloc, solo.close(), count, enabled)?;
+    Ok((summary, backends))
 }

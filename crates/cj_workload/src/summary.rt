@@ -3,13 +3,13 @@
 ghost use Rattle.std.specs.Prelude.{◌≡◌, ◌+◌, true, IfOk, IsErrOf};
 ghost use Rattle.cj_cluster.specs.History.Histories.{is_free};
 ghost use Rattle.cj_state.specs.Worlds.{WorldState};
-ghost use Rattle.cj_workload.specs.Summaries.{IsSummary, enablings};
+ghost use Rattle.cj_workload.specs.Summaries.{HaveCountsOf, IsSummary, enablings};
 
 use crate::asking::{are_equal, ask_each, count_faults, count_of};
 use crate::playing::WorkloadError;
 use crate::statements::table;
 use cj_backend::{Backend, BackendError};
-use cj_core::World;
+use cj_core::{Backends, World};
 use cj_outside::Store;
 use std::alloc::Global;
 
@@ -35,7 +35,7 @@ pub struct Summary {
 }
 
 /// Sums up a workload at the world that it ends with: so many statements were asked for, and backends were enabled so
-/// often meanwhile. Uses the world up.
+/// often meanwhile. Uses the world up, and gives its backends back.
 ///
 /// `Untold`: the table has hosts, and none is enabled, or one fails as it is asked for its contents.
 pub fn sum_up<B: Backend + Drop, S: Store + Drop>(
@@ -43,9 +43,10 @@ pub fn sum_up<B: Backend + Drop, S: Store + Drop>(
     world: World<B, S>,
     statements: u64,
     enabled: u64,
-) -> Result<Summary, WorkloadError>
+) -> Result<(Summary, Backends<B>), WorkloadError>
     requires { is_free world.core.history ≡ true }
-    ensures summary { (begun : WorldState) → enablings world.core.history ≡ enablings begun.core.history + enabled → IfOk result (IsSummary B.tells statements begun world) }
+    ensures summary { (begun : WorldState) → enablings world.core.history ≡ enablings begun.core.history + enabled → IfOk result (λ (summary, _). IsSummary B.tells statements begun world summary) }
+    ensures backends { IfOk result (λ (_, backends). HaveCountsOf B.faults B.arming backends world) }
     ensures opened { IsErrOf result WorkloadError.SessionsFull → ⊥ }
 {
     world.legal();
@@ -58,12 +59,12 @@ pub fn sum_up<B: Backend + Drop, S: Store + Drop>(
     if hosts != 0 && mask == 0 {
         return Err(WorkloadError::Untold);
     }
-    let held = match ask_each(alloc, backends, mask) {
-        Ok(held) => held,
+    let (held, asked) = match ask_each(alloc, backends, mask) {
+        Ok(found) => found,
         Err(BackendError::Failed) => return Err(WorkloadError::Untold),
         Err(BackendError::NoMemory) => return Err(WorkloadError::NoMemory),
     };
-    Ok(Summary {
+    let summary = Summary {
         statements,
         entries,
         faults,
@@ -72,5 +73,6 @@ pub fn sum_up<B: Backend + Drop, S: Store + Drop>(
         hits,
         misses,
         equal: are_equal(held.as_slice()),
-    })
+    };
+    Ok((summary, asked))
 }

@@ -1,16 +1,20 @@
 //! The program: hands files, the standard streams and the clock to `run` of `cj_top`, for the command that its words
-//! say.
+//! say, and to `explain` of `cj_explain`, which tells why it ended with an error.
 //!
-//! Promised: all that `run` promises, for what `cj_edge` tells of these objects. This file has no contract of its
-//! own; `checks/` tries the built program.
-//! To change: which store a command gets as its log is `log_store`. Everything else of a command is in `cj_top`.
+//! Promised: all that `run` and `explain` promise, for what `cj_edge` tells of these objects. This file has no
+//! contract of its own; `checks/` tries the built program. To change: which store a command gets as its log is
+//! `log_store`. Everything else of a command is in `cj_top`.
 #![tactic(auto)]
 
 use cj_edge::{
     FileStore, Patient, StdSink, StdSource, SystemClock, WordsError, fill_standard_streams, words,
 };
+use cj_explain::{Noted, Traces, explain, tell};
+use cj_outside::Sink;
 use cj_top::{paths, run};
+use std::alloc::Global;
 use std::fs::File;
+use std::io::ErrorKind;
 use std::process::ExitCode;
 use std::rt::Files;
 
@@ -27,33 +31,50 @@ fn log_store<R: Files<File = File>>(rt: R, words: &[String], path: String) -> Fi
     FileStore::open(rt, path)
 }
 
+/// Opens the configuration and the recovery log, or returns `None` if memory runs out. Where the words are no command
+/// `run` uses neither.
+fn stores<R: Files<File = File> + Copy>(
+    alloc: Global,
+    rt: R,
+    words: &[String],
+) -> Option<(FileStore<R>, FileStore<R>)> {
+    let path = paths(words).map_or("", |paths| paths.conf);
+    let log_path = format!(in alloc; "{path}.log").ok()?;
+    let conf_path = String::from_str(alloc, path).ok()?;
+    let conf = FileStore::open_to_read(rt, conf_path);
+    Some((conf, log_store(rt, words, log_path)))
+}
+
+/// Returns the status for words that can't be had. Those that aren't UTF-8 are a faulty command line, which is told.
+fn refuse_words<E: Sink>(error: WordsError, errors: &mut E) -> ExitCode {
+    match error {
+        WordsError::NoMemory => ExitCode::from(1),
+        WordsError::NotUtf8 => {
+            tell(2, "not UTF-8", errors);
+            ExitCode::from(2)
+        }
+    }
+}
+
 fn main(rt: HostRuntime) -> ExitCode {
-    // Before the first file, which would take the place of a stream that is closed. Which one that is isn't known, and
-    // none was used yet, so the status is the one for out of memory.
+    // Before the first file, which would take the place of a stream that is closed. Which one that is isn't known,
+    // and none was used yet, so the status is the one for out of memory.
     if fill_standard_streams(&rt).is_err() {
         return ExitCode::from(1);
     }
+    let mut errors = Noted::new(rt.alloc(), StdSink::new(Patient::new(rt.stderr(), rt)));
     let words = match words(&rt) {
         Ok(words) => words,
-        Err(WordsError::NoMemory) => return ExitCode::from(1),
-        // A word that isn't UTF-8 is a faulty command line.
-        Err(WordsError::NotUtf8) => return ExitCode::from(2),
+        Err(error) => return refuse_words(error, &mut errors),
     };
-    // Where the words are no command `run` reads no configuration.
-    let conf_path = paths(&words).map_or("", |paths| paths.conf);
-    let Ok(log_path) = format!(in rt.alloc(); "{conf_path}.log") else {
+    let Some((mut conf, log)) = stores(rt.alloc(), rt, &words) else {
         return ExitCode::from(1);
     };
-    let Ok(conf_path) = String::from_str(rt.alloc(), conf_path) else {
-        return ExitCode::from(1);
-    };
-    let mut conf = FileStore::open_to_read(rt, conf_path);
-    let log = log_store(rt, &words, log_path);
-    let mut input = StdSource::new(Patient::new(rt.reader(), rt));
+    let log_cause = log.cause();
+    let mut input = Noted::new(rt.alloc(), StdSource::new(Patient::new(rt.reader(), rt)));
     let mut output = StdSink::new(Patient::new(rt.stdout(), rt));
-    let mut errors = StdSink::new(Patient::new(rt.stderr(), rt));
     let clock = SystemClock::new(rt);
-    ExitCode::from(run(
+    let ended = run(
         rt.alloc(),
         &words,
         &mut conf,
@@ -62,5 +83,15 @@ fn main(rt: HostRuntime) -> ExitCode {
         &mut output,
         &mut errors,
         &clock,
-    ))
+    );
+    let traces = Traces {
+        words: &words,
+        input: input.notes(),
+        line: errors.notes().number(),
+        conf: conf.cause(),
+        // If the configuration's file had no error, the log's is the one that failed.
+        log: log_cause.or(Some(ErrorKind::Other)),
+    };
+    explain(rt.alloc(), ended.status, &traces, &mut conf, &mut errors);
+    ExitCode::from(ended.status)
 }

@@ -1,15 +1,14 @@
 //! The program on a case, over memory.
 
 ghost use Rattle.std.specs.Prelude.{◌≡◌, [], IfOk, map, string_bytes};
-ghost use Rattle.cjc_cases.specs.Runs.{KeepsPromises, handed, objects_of};
+ghost use Rattle.cjc_cases.specs.Runs.{IsExplained, KeepsPromises, handed, objects_of};
 
-use cj_cases::{Case, LeftStore, Outcome, Pieces, Runner, Slot};
+use cj_cases::{Case, Outcome, Pieces, Runner};
+use cj_explain::{Noted, Traces, explain};
 use cj_model::NoMemory;
 use cj_outside::{FixedClock, MemSink, MemSource, MemStore};
-use cj_top::run;
+use cj_top::{Ended, run};
 use std::alloc::Global;
-use std::cell::RefCell;
-use std::rc::Rc;
 
 /// The moment at which each case is run, in Unix seconds.
 const MOMENT: i64 = 1_700_000_000;
@@ -22,9 +21,9 @@ pub struct Program;
 #[derive(Drop)]
 pub struct Objects {
     configuration: MemStore,
-    input: Pieces,
+    input: Noted<Pieces>,
     output: MemSink,
-    errors: MemSink,
+    errors: Noted<MemSink>,
 }
 
 fn store(alloc: Global, content: &[u8], fails: &[u64]) -> Result<MemStore, NoMemory>
@@ -33,12 +32,13 @@ fn store(alloc: Global, content: &[u8], fails: &[u64]) -> Result<MemStore, NoMem
     Ok(MemStore::new(content.to_vec(alloc)?, fails.to_vec(alloc)?))
 }
 
-fn source(alloc: Global, case: &Case) -> Result<Pieces, NoMemory>
+fn source(alloc: Global, case: &Case) -> Result<Noted<Pieces>, NoMemory>
     ensures { IfOk result (λ source. source ≡ handed case.now.input case.now.fails.input) }
 {
     let content = case.input().to_vec(alloc)?;
     let source = MemSource::new(content, case.input_fails().to_vec(alloc)?);
-    Ok(Pieces::new(source, case.piece_limit()))
+    let pieces = Pieces::new(source, case.piece_limit());
+    Ok(Noted::new(alloc, pieces))
 }
 
 fn sink(alloc: Global, fails: &[u64]) -> Result<MemSink, NoMemory>
@@ -54,19 +54,19 @@ fn handed_objects(alloc: Global, case: &Case) -> Result<Objects, NoMemory>
         configuration: store(alloc, case.configuration(), case.configuration_fails())?,
         input: source(alloc, case)?,
         output: sink(alloc, case.output_fails())?,
-        errors: sink(alloc, case.errors_fails())?,
+        errors: Noted::new(alloc, sink(alloc, case.errors_fails())?),
     })
 }
 
-/// Runs the program with these words over these objects, and returns its status.
+/// Runs the program with these words, over this log and these objects.
 fn run_over(
     alloc: Global,
     words: &[String],
-    log: LeftStore,
+    log: MemStore,
     objects: &mut Objects,
     clock: &FixedClock,
-) -> u8
-    ensures { KeepsPromises (map string_bytes words.now) log clock.entry.now objects.old objects.new result }
+) -> Ended<MemStore>
+    ensures { KeepsPromises (map string_bytes words.now) log result.log clock.entry.now objects.old objects.new result.status }
 {
     run(
         alloc,
@@ -80,21 +80,36 @@ fn run_over(
     )
 }
 
+/// Tells why a run of the case ended with this status.
+fn explain_over(alloc: Global, case: &Case, status: u8, objects: &mut Objects)
+    ensures { IsExplained objects.old objects.new status }
+{
+    let traces = Traces {
+        words: case.words(),
+        input: objects.input.notes(),
+        line: objects.errors.notes().number(),
+        conf: None,
+        log: None,
+    };
+    explain(
+        alloc,
+        status,
+        &traces,
+        &mut objects.configuration,
+        &mut objects.errors,
+    );
+}
+
 fn copied(alloc: Global, sink: &MemSink) -> Result<Vec<u8>, NoMemory>
     ensures { IfOk result (λ bytes. bytes.items ≡ sink.now.bytes) }
 {
     Ok(sink.content().to_vec(alloc)?)
 }
 
-/// Returns the bytes of the store that was left, or none if there is no such store.
-fn left(alloc: Global, slot: &Slot) -> Result<Vec<u8>, NoMemory> {
-    match slot.try_borrow() {
-        Ok(store) => match &*store {
-            Some(store) => Ok(store.content().to_vec(alloc)?),
-            None => Ok(Vec::new(alloc)),
-        },
-        Err(_) => Ok(Vec::new(alloc)),
-    }
+fn left(alloc: Global, log: &MemStore) -> Result<Vec<u8>, NoMemory>
+    ensures { IfOk result (λ bytes. bytes.items ≡ log.now.bytes) }
+{
+    Ok(log.content().to_vec(alloc)?)
 }
 
 impl Runner for Program {
@@ -103,17 +118,16 @@ impl Runner for Program {
     ghost gives = { GivesAsRun };
 
     fn run(&mut self, alloc: Global, case: &Case) -> Result<Outcome, NoMemory> {
-        let slot = Rc::new(alloc, RefCell::new(None))?;
-        let store = store(alloc, case.log(), case.log_fails())?;
-        let log = LeftStore::new(store, slot.clone()?);
+        let log = store(alloc, case.log(), case.log_fails())?;
         let mut objects = handed_objects(alloc, case)?;
         let clock = FixedClock::new(MOMENT);
-        let status = run_over(alloc, case.words(), log, &mut objects, &clock);
+        let ended = run_over(alloc, case.words(), log, &mut objects, &clock);
+        explain_over(alloc, case, ended.status, &mut objects);
         Ok(Outcome {
-            status,
+            status: ended.status,
             output: copied(alloc, &objects.output)?,
-            errors: copied(alloc, &objects.errors)?,
-            log: left(alloc, &slot)?,
+            errors: copied(alloc, objects.errors.inner())?,
+            log: left(alloc, &ended.log)?,
         })
     }
 }

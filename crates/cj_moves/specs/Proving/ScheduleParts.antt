@@ -7,6 +7,7 @@ use Rattle.cj_cluster.specs.declared.moves.MoveError.TheVariants.{NoMemory}
 use Rattle.cj_cluster.specs.declared.moves.Moved.TheVariants as moved
 use Rattle.cj_cluster.specs.Moves.Cores.{Core, session_at}
 use Rattle.cj_cluster.specs.Moves.Moves.{MoveResult, SchedulesRequest, is_waiting, with_request_counted}
+use Rattle.cj_moves.specs.Proving.RefusedEvents.{refused_as}
 
 -- the session can count one request more
 pub record CanCountOne (c : Core) (s : ℕ) : Type 0 where
@@ -14,11 +15,10 @@ pub record CanCountOne (c : Core) (s : ℕ) : Type 0 where
   pub idle : is_waiting c s ≡ false
   pub no_read : (session_at c s).reading ≡ None
 
--- the result of the move for an entry's number or a refusal; without a refusal memory ran out
+-- the result of the move for an entry's number, or for a refused entry
 abbrev pub schedule_given : Result ℕ (Option Refusal) → MoveResult
 schedule_given (Ok n) = Ok (moved.Entry n)
-schedule_given (Err (Some refusal)) = Ok (moved.Refused refusal)
-schedule_given (Err None) = Err NoMemory
+schedule_given (Err refusal) = refused_as refusal
 
 -- a request of session s was scheduled, or refused and is yet to be counted
 abbrev pub SchedulesUncounted : Core → ℕ → Request → Result ℕ (Option Refusal) → Core → Type 0

@@ -32,7 +32,8 @@ abbrev pub KeptFresh : Bool → WorldState → List ℕ → Tally → CacheState
 KeptFresh tells w numbers tally cache dumps =
     Kept tells w numbers tally × IsFreshCache tells (log w.core.history) cache × AreDumpsOf tells w.core.placement (log w.core.history) dumps
 
--- what holds of a world's parts, with only fresh answers, right dumps, book and cells seated so, and such a log beside the book
+-- what holds of a world's parts, with only fresh answers, right dumps, book and cells seated so, and such a log beside
+-- the book
 abbrev pub KeptSeated : Bool → WorldState → List ℕ → Tally → CacheState → List Dump → Type 0 → Type 0 → Type 0
 KeptSeated tells w numbers tally cache dumps seated logged =
     Kept tells w numbers tally × IsFreshCache tells (log w.core.history) cache × AreDumpsOf tells w.core.placement (log w.core.history) dumps × seated × logged

@@ -1,25 +1,22 @@
-use Rattle.std.proofs.Common.{◌≡◌, Result, Ok, Err, map, refl, sym, ◌∙◌, subst}
-use Rattle.cj_top.proofs.Cited.{Found, IfErr, IfOk, IsOkAnd, Layout, PipeError, RefusesPipe, Register, SessionEnd, StartsFrom, WorldState, not_failed, pipe_answers, placement_of, refuses_log, state_by}
+use Rattle.std.proofs.Common.{◌≡◌, ◌≤◌, Result, Ok, Err, map, refl, sym, ◌∙◌, subst}
+use Rattle.cj_model.specs.declared.limits.TheConstants.{SESSION_NUMBER_LIMIT}
+use Rattle.cj_top.specs.declared.piped.PipeError.TheVariants as errors
+use Rattle.cj_top.proofs.Cited.{Found, IfErr, IfOk, IsLogOf, Layout, PipeError, RefusesPipe, Register, SessionEnd, StartsFrom, WorldState, keeps_front, placement_of, prefix_self, state_by}
 use Rattle.cj_top.proofs.piped.pipe.Goals as goal
 
 -- what is promised of a session that was served
-served_at : {A : SessionEnd → WorldState → Type 0} {B : SessionEnd → WorldState → Type 0} (r : Result (SessionEnd × WorldState) PipeError) → IfOk r (λ x. A x.0 x.1)
-    → ((ending : SessionEnd) (last : WorldState) → r ≡ Ok (ending, last) → A ending last → B ending last) → IfOk r (λ x. B x.0 x.1)
-served_at (Ok (ending, last)) a gives = gives ending last refl a
+served_at : {S : Type 0} {A : SessionEnd → WorldState → Type 0} {B : SessionEnd → WorldState → Type 0} (r : Result (SessionEnd × WorldState) (PipeError × S)) → IfOk r (λ x. A x.0 x.1)
+    → ((ending : SessionEnd) (last : WorldState) → A ending last → B ending last) → IfOk r (λ x. B x.0 x.1)
+served_at (Ok (ending, last)) a gives = gives ending last a
 served_at (Err e) a gives = tt
 
--- an end that was come to
-ended_so : (r : Result (SessionEnd × WorldState) PipeError) (ending : SessionEnd) (last : WorldState) (end : SessionEnd) → r ≡ Ok (ending, last) → ending ≡ end → IsOkAnd r (λ (x : SessionEnd × WorldState). x.0 ≡ end)
-ended_so r ending last end is e = subst (λ (q : Result (SessionEnd × WorldState) PipeError). IsOkAnd q (λ (x : SessionEnd × WorldState). x.0 ≡ end)) (sym is) e
-
-refused_at : {A B : PipeError → Type 0} (r : Result (SessionEnd × WorldState) PipeError) → IfErr r A → ((e : PipeError) → A e → B e) → IfErr r B
-refused_at (Ok x) a gives = tt
-refused_at (Err e) a gives = gives e a
+-- a session that was not opened
+refused_at : {S : Type 0} (A B Z : PipeError → S → Type 0) (r : Result (SessionEnd × WorldState) (PipeError × S)) → IfErr r (λ x. A x.0 x.1) → IfErr r (λ x. B x.0 x.1) → ((e : PipeError) (left : S) → A e left → B e left → Z e left) → IfErr r (λ x. Z x.0 x.1)
+refused_at A B Z (Ok x) a b gives = tt
+refused_at A B Z (Err (e, left)) a b gives = gives e left a b
 
 pub returns-in-Err-clause-refused : goal.returns-in-Err-clause-refused
-returns-in-Err-clause-refused g c =
-    let s = g.S.Store in
-    refuses_log s.faults s.held c.args.log s.tells c.in-Err.error c.in-Err.field-0-1 c.in-Err.ensures.bytes c.in-Err.ensures.cause
+returns-in-Err-clause-refused g c = record { bytes = c.in-Err.ensures.bytes; cause = c.in-Err.ensures.cause }
 
 pub serve_one-requires-clause-fresh : goal.serve_one-requires-clause-fresh
 serve_one-requires-clause-fresh g c = c.in-Ok-start.ensures.started.started.sessions
@@ -36,22 +33,24 @@ returns-clause-served g c =
     in
     let starts = subst (λ (l : Layout). StartsFrom (Found g.S.Store.tells (g.S.Store.held c.args.log)) (placement_of l) (map (state_by g.B.Backend.told g.B.Backend.faults g.B.Backend.asks g.B.Backend.login g.B.Backend.arming) c.args.backends) first) c.in-Ok.ensures.placement c.in-Ok-start.ensures.started in
     served_at c.serve_one.result c.serve_one.ensures.serves
-    (λ ending last is serves. (
+    (λ ending last serves. (
       first,
       starts,
       setup,
       c.in-Ok-start.ensures.cache ∙ c.in-Ok.ensures.cache,
+      c.in-Ok-start.ensures.cause,
       serves,
-      λ input output memory.
-          pipe_answers g.B.Backend.tells c.args.conf.seed (g.C.Clock.moment c.args.clock.now) (g.I.Source.left c.args.input.now) (g.I.Source.left c.serve_one.new.input) (g.O.Sink.held c.args.output.now) (g.O.Sink.held c.serve_one.new.output) first last ending serves
-          (λ e. not_failed _ _ _ c.serve_one.ensures.input input (ended_so c.serve_one.result ending last _ is e)) (λ e. not_failed _ _ _ c.serve_one.ensures.output output (ended_so c.serve_one.result ending last _ is e)) memory,
     ))
 
 pub returns-clause-refused : goal.returns-clause-refused
 returns-clause-refused g c =
     let first : WorldState = c.in-Ok-start.world in
     let starts = subst (λ (l : Layout). StartsFrom (Found g.S.Store.tells (g.S.Store.held c.args.log)) (placement_of l) (map (state_by g.B.Backend.told g.B.Backend.faults g.B.Backend.asks g.B.Backend.login g.B.Backend.arming) c.args.backends) first) c.in-Ok.ensures.placement c.in-Ok-start.ensures.started in
-    refused_at c.serve_one.result c.serve_one.ensures.full
-    (λ e full.
-    subst (RefusesPipe g.S.Store.faults c.args.log g.S.Store.tells (g.S.Store.held c.args.log) (placement_of c.args.conf.placement) (map (state_by g.B.Backend.told g.B.Backend.faults g.B.Backend.asks g.B.Backend.login g.B.Backend.arming) c.args.backends)) (sym full.0)
-    (record { first = first; starts = starts; last_given = full.1 }))
+    let s = g.S.Store in
+    let p = placement_of c.args.conf.placement in
+    let backends = map (state_by g.B.Backend.told g.B.Backend.faults g.B.Backend.asks g.B.Backend.login g.B.Backend.arming) c.args.backends in
+    refused_at (λ e left. (e ≡ errors.SessionsFull) × (SESSION_NUMBER_LIMIT ≤ first.core.greatest)) (λ e left. IsLogOf s.faults s.held s.may s.tells first left) (λ e left. RefusesPipe s.faults s.held s.may s.tells c.args.log left p backends e)
+    c.serve_one.result c.serve_one.ensures.full c.serve_one.ensures.left
+    (λ e left full leaves.
+    subst (λ (x : PipeError). RefusesPipe s.faults s.held s.may s.tells c.args.log left p backends x) (sym full.0)
+    (record { first = first; starts = starts; last_given = full.1; goes_on = record { begins = c.in-Ok-start.ensures.cause; longer = keeps_front s.tells (s.held c.args.log) p backends first first starts (prefix_self first.core.history); leaves = leaves } }))

@@ -1,5 +1,5 @@
 use Rattle.std.proofs.Common.{◌≡◌, ◌+◌, ◌%◌, ◌^◌, ◌≤◌, ℕ, None, get_or, sum, ap, sym, ◌∙◌, subst, arith}
-use Rattle.cj_top.proofs.Cited.{Lcg, ServesSession, SoloState, WorldState, client_state, desk_of, desk_tx, faults_of, generator_after, generator_of, log, of_generator, opened_at, quiet_session, seeded, session_grows, solo_setting, transcript_chained, tx_of_unknown}
+use Rattle.cj_top.proofs.Cited.{IsLogOf, Lcg, ServesSession, SoloState, WorldState, client_state, desk_of, desk_tx, faults_of, generator_after, generator_of, log, of_generator, opened_at, quiet_log_session, quiet_session, seeded, session_answers, session_grows, solo_setting, transcript_chained, tx_of_unknown}
 use Rattle.cj_top.proofs.piped.serve_one.Goals as goal
 
 pub serve_session-end-requires-clause-closed : goal.serve_session-end-requires-clause-closed
@@ -36,6 +36,14 @@ returns-clause-serves g c =
           λ same small.
           quiet_session tells of_generator (λ generator n. generator_after generator) moment (client_state None (opened_at c.args.world) (generator_of c.args.seed (c.args.world.core.greatest + 1))) served.taken
           served.written end.result end.new.desk end.new.draw served.transcript (sym (ap (λ (w : WorldState). sum (faults_of w.cells)) c.close.ensures) ∙ same) small;
+      stored =
+          λ same small.
+          quiet_log_session tells of_generator (λ generator n. generator_after generator) moment (client_state None (opened_at c.args.world) (generator_of c.args.seed (c.args.world.core.greatest + 1))) served.taken
+          served.written end.result end.new.desk end.new.draw served.transcript (sym (ap (λ (w : WorldState). w.recovery_log.faults) c.close.ensures) ∙ same) small;
+      whole =
+          λ by.
+          session_answers (solo_setting tells moment) (client_state None (opened_at c.args.world) (generator_of c.args.seed (c.args.world.core.greatest + 1))) end.result end.new.desk end.new.draw (g.I.Source.left c.args.input.now)
+          (g.I.Source.left end.new.input) (g.O.Sink.held c.args.output.now) (g.O.Sink.held end.new.output) served by;
       closed = c.close.ensures;
       grown =
           λ small k.
@@ -43,3 +51,11 @@ returns-clause-serves g c =
           (session_grows tells of_generator (λ generator n. generator_after generator) moment (client_state None (opened_at c.args.world) (generator_of c.args.seed (c.args.world.core.greatest + 1))) served.taken
           served.written end.result end.new.desk end.new.draw served.transcript small k);
     }
+
+pub returns-in-Err-clause-left : goal.returns-in-Err-clause-left
+returns-in-Err-clause-left g c =
+    let s = g.S.Store in
+    let left : IsLogOf s.faults s.held s.may s.tells c.in-Err.world c.into_log.result =
+    record { counts = c.into_log.ensures.faults; bytes = c.into_log.ensures.bytes; kept = c.into_log.ensures.kept; stop = c.into_log.ensures.stop }
+    in
+    subst (λ (w : WorldState). IsLogOf s.faults s.held s.may s.tells w c.into_log.result) c.in-Err.ensures.full.2 left

@@ -34,11 +34,11 @@ returns-in-Ok-Some-Command-clause-other g c none =
     let is : r.field-0 ≡ Some (asked.Command r.command) = cc (r.field-0-is, r.field-0-0-is) in
     absurd (none (asked.Command r.command) ((r.ensures.found (asked.Command r.command)).0 is))
 
-pub returns-in-Ok-Some-Command-clause-complete : goal.returns-in-Ok-Some-Command-clause-complete
-returns-in-Ok-Some-Command-clause-complete g c =
+pub returns-in-Ok-Some-Command-clause-opens : goal.returns-in-Ok-Some-Command-clause-opens
+returns-in-Ok-Some-Command-clause-opens g c tells =
     let r = c.in-Ok-Some-Command in
     let is : r.field-0 ≡ Some (asked.Command r.command) = cc (r.field-0-is, r.field-0-0-is) in
-    of_command (map string_bytes c.args.words.now) r.field-0 r.ensures.found _ r.command is c.run_command.ensures.complete
+    of_command (map string_bytes c.args.words.now) r.field-0 r.ensures.found _ r.command is (c.run_command.ensures.opens tells)
 
 pub returns-in-Ok-Some-Help-clause-runs : goal.returns-in-Ok-Some-Help-clause-runs
 returns-in-Ok-Some-Help-clause-runs g c command says =
@@ -52,8 +52,8 @@ returns-in-Ok-Some-Help-clause-other g c none =
     let is : r.field-0 ≡ Some (asked.Help r.topic) = cc (r.field-0-is, r.field-0-0-is) in
     absurd (none (asked.Help r.topic) ((r.ensures.found (asked.Help r.topic)).0 is))
 
-pub returns-in-Ok-Some-Help-clause-complete : goal.returns-in-Ok-Some-Help-clause-complete
-returns-in-Ok-Some-Help-clause-complete g c command says =
+pub returns-in-Ok-Some-Help-clause-opens : goal.returns-in-Ok-Some-Help-clause-opens
+returns-in-Ok-Some-Help-clause-opens g c tells command says =
     let r = c.in-Ok-Some-Help in
     let is : r.field-0 ≡ Some (asked.Help r.topic) = cc (r.field-0-is, r.field-0-0-is) in
     absurd (help_is_no_command (map string_bytes c.args.words.now) r.field-0 r.ensures.found r.topic command is says)
@@ -70,8 +70,8 @@ returns-in-Ok-Some-Version-clause-other g c none =
     let is : r.field-0 ≡ Some asked.Version = cc (r.field-0-is, r.field-0-0-is) in
     absurd (none asked.Version ((r.ensures.found asked.Version).0 is))
 
-pub returns-in-Ok-Some-Version-clause-complete : goal.returns-in-Ok-Some-Version-clause-complete
-returns-in-Ok-Some-Version-clause-complete g c command says =
+pub returns-in-Ok-Some-Version-clause-opens : goal.returns-in-Ok-Some-Version-clause-opens
+returns-in-Ok-Some-Version-clause-opens g c tells command says =
     let r = c.in-Ok-Some-Version in
     let is : r.field-0 ≡ Some asked.Version = cc (r.field-0-is, r.field-0-0-is) in
     absurd (version_is_no_command (map string_bytes c.args.words.now) r.field-0 r.ensures.found command is says)
@@ -83,8 +83,8 @@ returns-in-Ok-None-clause-runs g c command says =
 pub returns-in-Ok-None-clause-text : goal.returns-in-Ok-None-clause-text
 returns-in-Ok-None-clause-text g c asks = absurd (asks_for_no_text (map string_bytes c.args.words.now) c.in-Ok-None.field-0 c.in-Ok-None.ensures.found c.in-Ok-None.field-0-is asks)
 
-pub returns-in-Ok-None-clause-complete : goal.returns-in-Ok-None-clause-complete
-returns-in-Ok-None-clause-complete g c command says =
+pub returns-in-Ok-None-clause-opens : goal.returns-in-Ok-None-clause-opens
+returns-in-Ok-None-clause-opens g c tells command says =
     absurd (asks_nothing (map string_bytes c.args.words.now) c.in-Ok-None.field-0 c.in-Ok-None.ensures.found c.in-Ok-None.field-0-is (asked.Command command) says)
 
 pub returns-in-Err-clause-other : goal.returns-in-Err-clause-other

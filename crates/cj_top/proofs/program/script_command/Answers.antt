@@ -1,8 +1,7 @@
-use Rattle.cj_top.proofs.Completed.{cause_of_ok}
+use Rattle.cj_top.proofs.Cited.{counted_at}
 use Rattle.cj_top.proofs.program.script_command.Goals as goal
 
-pub returns-in-Ok-clause-input : goal.returns-in-Ok-clause-input
-returns-in-Ok-clause-input g c = cause_of_ok c.in-Ok.status 5 _ _ c.in-Ok.ensures.input
-
-pub returns-in-Ok-clause-output : goal.returns-in-Ok-clause-output
-returns-in-Ok-clause-output g c = cause_of_ok c.in-Ok.status 6 _ _ c.in-Ok.ensures.output
+pub returns-in-Err-clause-log : goal.returns-in-Err-clause-log
+returns-in-Err-clause-log g c =
+    let s = g.S.Store in
+    counted_at s.faults s.held s.tells c.args.log c.in-Err.log c.in-Err.error c.stop_at_log.result c.stop_at_log.ensures.status c.in-Err.ensures.refused

@@ -1,7 +1,8 @@
 use Rattle.std.proofs.Common.{◌≡◌, ℕ, List, subst}
 use Rattle.cj_model.specs.Sql.PlainRequests.{request_of}
 use Rattle.cj_desk.specs.DeskStates.{next_call, turn_taken}
-use Rattle.cj_core.specs.Solos.{EndsStarving, SoloSteps, desk_of}
+use Rattle.cj_calls.specs.Entries.{EndsStarving}
+use Rattle.cj_core.specs.Solos.{SoloSteps, desk_of}
 use Rattle.cj_workload.proofs.Turned.{keeps_turned}
 use Rattle.cj_workload.proofs.playing.write.Goals as goal
 

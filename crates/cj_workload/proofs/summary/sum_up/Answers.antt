@@ -1,8 +1,8 @@
 use Rattle.std.proofs.Common.{◌≡◌, ◌≢◌, ◌∙◌, ◌⊎◌, inl, inr, refl, ◌-◌, ◌^◌, ap, subst, sym, length, map, min, sum, true, List, ℕ, Option, Some, bit_and, arith}
 use Rattle.std.specs.Int.Bits.{and_lt}
-use Rattle.cj_workload.proofs.Common.{All, AreSame, faults_of, first_count, first_host, hosts, in_mask, MatchOption, part, Placement, row_count, rows_in, slice_get, Slot, table_name}
+use Rattle.cj_workload.proofs.Common.{All, AreSame, faults_of, first_count, first_host, hosts, in_mask, MatchOption, part, Placement, row_count, rows_in, slice_get, Slot, table_name, times_armed}
 use Rattle.cj_cluster.specs.History.Histories.{database_of, is_enabled, log}
-use Rattle.cj_workload.proofs.Summing.{all_same, as_many, cells_of, each_holds, rows_counted, same_counts}
+use Rattle.cj_workload.proofs.Summing.{all_same, as_many, cells_of, each_holds, rows_counted, same_counts, same_times}
 use Rattle.cj_workload.proofs.summary.sum_up.Goals as goal
 use Rattle.cj_workload.proofs.summary.sum_up.Goals.{else-hosts-ne0-via-then-hosts-ne0+else-mask-eq0, else-hosts-ne0-via-else-hosts-ne0}
 
@@ -23,7 +23,7 @@ returns-clause-summary g c =
     let db = database_of (log core.history) in
     let hosting = c.hosts-hosts.result in
     let enabled = c.enabled.result in
-    let held = c.in-Ok.held in
+    let held = c.in-Ok.found.0 in
     let P : List Slot → Type 0 = λ (d : List Slot). rows_in d ≡ rows_in db in
     let is_host : (k : ℕ) → in_mask hosting k ≡ hosts p k table_name =
     λ k. c.hosts-hosts.ensures k ∙ (ap (λ (q : Placement). hosts q k c.table.result) c.placement.ensures.placement ∙ ap (λ (t : List ℕ). hosts p k t) c.table.ensures) in
@@ -50,4 +50,18 @@ returns-clause-summary g c =
       hits = ap (λ (x : ℕ × ℕ). x.0) c.cache_counts-hits.ensures;
       misses = ap (λ (x : ℕ × ℕ). x.1) c.cache_counts-hits.ensures;
       equal = λ tells. c.are_equal.ensures.1 (subst AreSame (sym c.as_slice-2.ensures) (all_same (rows_in db) held (same tells)));
+    }
+
+-- asking the backends leaves their counts
+pub returns-clause-backends : goal.returns-clause-backends
+returns-clause-backends g c =
+    let b = g.B.Backend in
+    let cells = c.args.world.cells in
+    let back = c.into_backends.result in
+    let same = c.into_backends.ensures.same in
+    record {
+      failed =
+          c.in-Ok.ensures.faults ∙ (ap (map b.faults) c.into_vec-backends.ensures ∙ same_counts b.told b.faults b.asks b.login b.arming cells back same);
+      armed =
+          c.in-Ok.ensures.armings ∙ (ap (times_armed b.arming) c.into_vec-backends.ensures ∙ same_times b.told b.faults b.asks b.login b.arming cells back same);
     }

@@ -7,8 +7,9 @@ returns c = record {
   text = c.run.ensures.text;
   other = c.run.ensures.other;
   quiet = c.run.ensures.quiet;
+  conf = c.run.ensures.conf;
   stores = c.run.ensures.stores;
   input = c.run.ensures.input;
   output = c.run.ensures.output;
-  complete = c.run.ensures.complete;
+  opens = c.run.ensures.opens;
 }

@@ -18,28 +18,25 @@ pub returns-in_err-reserve-2-clause-begins : goal.returns-in_err-reserve-2-claus
 returns-in_err-reserve-2-clause-begins c = unprepared c.args.self.now.state c.args.e.now.act c.from_residual-in_err-reserve-2.result c.from_residual-in_err-reserve-2.ensures.1 c.in_ok-check_schedule.ensures
 
 pub returns-clause-begins : goal.returns-clause-begins
-returns-clause-begins c = begun c.args.self.now.state c.args.e.now.act c.in_ok-item.item c.in_ok-check_schedule.ensures
+returns-clause-begins c = begun c.args.self.now.state c.args.e.now.act (record { item = c.in_ok-item.item; prepared = c.in_ok-prepared.prepared }) c.in_ok-check_schedule.ensures
 
 -- ---- where memory is wanting, nothing is pending
 
 pub invariant_of-self : goal.invariant_of-self
 invariant_of-self c =
     let none = rw (← c.self.view_is) at c.requires.pending in
-    rw c.reserve.ensures.items (c.self.invariant.0, kept_for_none _ _ _ _ _ _ _ c.self.inside.pending none)
+    rw c.reserve.ensures.items (c.self.invariant.0, kept_for_none _ _ _ _ c.self.inside.pending none)
 
 pub invariant_of-self-in_err-reserve-2 : goal.invariant_of-self-in_err-reserve-2
 invariant_of-self-in_err-reserve-2 c =
     let none = rw (← c.self.view_is) at c.requires.pending in
-    rw (c.reserve.ensures.items, c.reserve-2.ensures.list) (c.self.invariant.0, kept_for_none _ _ _ _ _ _ _ c.self.inside.pending none)
+    rw (c.reserve.ensures.items, c.reserve-2.ensures.list) (c.self.invariant.0, kept_for_none _ _ _ _ c.self.inside.pending none)
 
 -- ---- the entry is pending
 
 pub invariant_of-self-2 : goal.invariant_of-self-2
 invariant_of-self-2 c =
     let can = rw (← c.self.view_is) at c.in_ok-check_schedule.ensures in
-    let fit = rw (← c.self.view_is) at c.requires.fit in
-    let given = rw (← c.self.view_is) at c.requires.given in
-    let prepared = rw (← c.self.view_is) at c.in_ok-prepared.ensures in
     let same = ap length c.reserve.ensures.items in
     let room = c.in_ok-reserve.ensures.ok in
     let space = can.space in
@@ -48,10 +45,7 @@ invariant_of-self-2 c =
       record {
         idle = can.is_free;
         space = space;
-        fit = rw c.of.ensures (fit can.is_free);
-        given = rw c.of.ensures given;
-        prepared = rw c.of.ensures prepared;
         place = omega (arith, same, room);
-        tx_place = rw c.of.ensures c.in_ok-reserve-2.ensures.place;
+        tx_place = c.in_ok-reserve-2.ensures.place;
       },
     )

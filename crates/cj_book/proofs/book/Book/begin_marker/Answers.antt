@@ -1,5 +1,5 @@
-use Rattle.std.proofs.Common.{ap, length, arith, ◌∙◌}
-use Rattle.cj_book.proofs.Cited.{LogMarker, begins_full, begins_wanting, kept_for_none, marker_begun}
+use Rattle.std.proofs.Common.{ap, length, arith}
+use Rattle.cj_book.proofs.Cited.{begins_full, begins_wanting, kept_for_none, marker_begun}
 use Rattle.cj_book.proofs.book.Book.begin_marker.Goals as goal
 
 pub returns-in_err-check_room-clause-begins : goal.returns-in_err-check_room-clause-begins
@@ -16,16 +16,14 @@ returns-clause-begins c = marker_begun c.args.self.now.state _ c.in_ok-check_roo
 pub invariant_of-self : goal.invariant_of-self
 invariant_of-self c =
     let none = rw (← c.self.view_is) at c.requires.pending in
-    rw c.reserve.ensures.items (c.self.invariant.0, kept_for_none _ _ _ _ _ _ _ c.self.inside.pending none)
+    rw c.reserve.ensures.items (c.self.invariant.0, kept_for_none _ _ _ _ c.self.inside.pending none)
 
 -- ---- the marker is pending
 
 pub invariant_of-self-2 : goal.invariant_of-self-2
 invariant_of-self-2 c =
     let idle = rw (← c.self.view_is) at c.requires.is_free in
-    let fresh = rw (← c.self.view_is) at c.requires.fresh in
     let space = rw (← c.self.view_is) at c.in_ok-check_room.ensures in
-    let count = rw (← c.self.view_is) at c.length-number.ensures in
     let same = ap length c.reserve.ensures.items in
     let room = c.in_ok-reserve.ensures.ok in
     rw c.reserve.ensures.items (
@@ -33,8 +31,6 @@ invariant_of-self-2 c =
       record {
         idle = idle;
         space = space;
-        fresh = rw (ap (λ (m : LogMarker). m.name) c.marker_of.ensures) fresh;
-        after = ap (λ (m : LogMarker). m.after) c.marker_of.ensures ∙ count;
         place = omega (arith, same, room);
       },
     )

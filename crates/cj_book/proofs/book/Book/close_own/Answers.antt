@@ -1,6 +1,6 @@
 use Rattle.std.proofs.Common.{◌==◌, ℕ, List, All, Contains, filter, not, ap, sym, subst, refl}
 use mathlib.Core.List.{IsPrefix}
-use Rattle.cj_book.proofs.Cited.{SeatView, book_view, closed_out, follows_closed, history, numbers_without, pass_view, pending_closed, session_number}
+use Rattle.cj_book.proofs.Cited.{SeatView, book_view, closed_out, follows_closed, history, numbers_without, pass_view, session_number}
 use Rattle.cj_book.proofs.Owners.{numbers_of, open_taken}
 use Rattle.cj_board.specs.Seats.{front}
 use Rattle.cj_book.specs.Books.{IsOpenSession}
@@ -21,7 +21,7 @@ invariant_of-self c =
         within = k.within;
         owned = subst (λ (m : ℕ). All (IsOpenSession (numbers_of (without session_number n c.self.inside.sessions))) (filter (λ s. not (s == m)) v.given)) (sym own) (open_taken c.self.inside.sessions v.given n (closed_out n v.given) k.owned);
       },
-      pending_closed c.self.inside.placement (history c.self.inside.seat) c.self.inside.sessions c.self.inside.greatest _ _ _ n k.follows.sessions.known c.self.inside.pending c.self.invariant.1,
+      c.self.invariant.1,
     )
 
 pub returns-clause-state : goal.returns-clause-state

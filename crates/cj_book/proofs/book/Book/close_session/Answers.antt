@@ -1,5 +1,5 @@
 use Rattle.cj_book.proofs.Owners.{open_others}
-use Rattle.cj_book.proofs.Cited.{book_view, follows_closed, history, numbers_without, pending_closed, session_number}
+use Rattle.cj_book.proofs.Cited.{book_view, follows_closed, history, numbers_without, session_number}
 use Rattle.cj_book.proofs.book.Book.close_session.Goals as goal
 
 pub invariant_of-self : goal.invariant_of-self
@@ -13,7 +13,7 @@ invariant_of-self c =
         within = k.within;
         owned = rw c.remove.ensures (open_others c.self.inside.sessions (book_view c.self.inside.seat).given c.args.session unowned k.owned);
       },
-      rw c.remove.ensures (pending_closed c.self.inside.placement (history c.self.inside.seat) c.self.inside.sessions c.self.inside.greatest _ _ _ c.args.session k.follows.sessions.known c.self.inside.pending c.self.invariant.1),
+      c.self.invariant.1,
     )
 
 pub returns-clause-state : goal.returns-clause-state

@@ -20,7 +20,7 @@ invariant_of-self c =
     let was = rw (← c.self.view_is) at c.requires.is_disabled in
     let named = rw (← c.self.view_is) at c.requires.below in
     let none = rw (← c.self.view_is) at c.requires.pending in
-    rw c.append.ensures.book (kept_enabled c.self.invariant.0 c.args.b named space idle was, kept_for_none _ _ _ _ _ _ _ c.self.inside.pending none)
+    rw c.append.ensures.book (kept_enabled c.self.invariant.0 c.args.b named space idle was, kept_for_none _ _ _ _ c.self.inside.pending none)
 
 pub returns-clause-still_gives : goal.returns-clause-still_gives
 returns-clause-still_gives c = rw (← c.self.view_is, c.append.ensures.book) (next_after c.self.inside.greatest (book_view c.self.inside.seat) (Enabled c.args.b) refl)

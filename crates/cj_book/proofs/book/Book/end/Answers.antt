@@ -16,7 +16,7 @@ invariant_of-self c =
     let is_open = rw (← c.self.view_is) at c.requires.«open» in
     let masks = rw (← c.self.view_is) at c.requires.masks in
     let none = rw (← c.self.view_is) at c.requires.pending in
-    rw c.append.ensures.book (kept_ended c.self.invariant.0 c.args.failed c.args.starved (search rules) (search rules) (search rules) is_open masks, kept_for_none _ _ _ _ _ _ _ c.self.inside.pending none)
+    rw c.append.ensures.book (kept_ended c.self.invariant.0 c.args.failed c.args.starved (search rules) (search rules) (search rules) is_open masks, kept_for_none _ _ _ _ c.self.inside.pending none)
 
 pub returns-clause-still_gives : goal.returns-clause-still_gives
 returns-clause-still_gives c = rw (← c.self.view_is, c.append.ensures.book) (next_after c.self.inside.greatest (book_view c.self.inside.seat) (Ended c.args.failed c.args.starved) refl)

@@ -1,12 +1,6 @@
-use Rattle.std.proofs.Common.{◌≡◌, ◌≢◌, ◌+◌, [], ◌∷◌, ◌++◌, length, map, None, Option, ap, sym, subst, refl, ◌∙◌, arith}
-use Rattle.cj_book.proofs.Cited.{Entry, HasCountNotes, IsLegal, LogFailed, Pending, Sched, book_view, by_tables, entry_ready, follows_log_failed, follows_sched, given_after, hearing, history, kept_log_failed, kept_sched, legal_push, log, numbers_after, numbers_before, own_view, placement_of, seen_after, session_number, sessions_after, some_prepared, transactions_after, without_touched}
-use Rattle.cj_book.specs.Pendings.{prepared_of}
+use Rattle.std.proofs.Common.{◌≡◌, ◌+◌, [], ◌∷◌, ◌++◌, length, map, ap, sym, subst, refl, ◌∙◌, arith}
+use Rattle.cj_book.proofs.Cited.{Entry, HasCountNotes, IsLegal, LogFailed, Sched, book_view, by_tables, entry_ready, follows_log_failed, follows_sched, given_after, hearing, history, kept_log_failed, kept_sched, legal_push, log, numbers_after, numbers_before, own_view, placement_of, seen_after, session_number, sessions_after, transactions_after, without_touched}
 use Rattle.cj_book.proofs.book.Book.finish_entry.Goals as goal
-
-pub prepared_of-prepared-requires : goal.prepared_of-prepared-requires
-prepared_of-prepared-requires c =
-    let pending = rw (← c.self.view_is) at c.requires.pending in
-    subst (λ (o : Option Pending). prepared_of o ≢ None) (sym c.replace.ensures.value) (some_prepared c.self.inside.pending c.args.e pending)
 
 -- ---- the log's store failed
 
@@ -14,8 +8,7 @@ pub announce-requires-clause-legal : goal.announce-requires-clause-legal
 announce-requires-clause-legal c =
     let b = c.self.inside in
     let pending = rw (← c.self.view_is) at c.requires.pending in
-    let there = ap prepared_of (sym c.replace.ensures.value) ∙ c.prepared_of-prepared.ensures in
-    let ready = entry_ready b.placement (history b.seat) (map session_number b.sessions) b.greatest _ _ _ b.pending c.args.e c.prepared_of-prepared.result c.self.invariant.1 pending there in
+    let ready = entry_ready (history b.seat) _ _ _ b.pending c.self.invariant.1 pending in
     let space = ready.space in
     (follows_log_failed _ _ _ _ _ _ c.self.invariant.0.follows c.args.e.session c.args.e.seq (omega (arith, space)) ready.idle).legal
 
@@ -32,10 +25,9 @@ pub invariant_of-self-in-Err-Failed : goal.invariant_of-self-in-Err-Failed
 invariant_of-self-in-Err-Failed c =
     let b = c.self.inside in
     let pending = rw (← c.self.view_is) at c.requires.pending in
-    let there = ap prepared_of (sym c.replace.ensures.value) ∙ c.prepared_of-prepared.ensures in
-    let ready = entry_ready b.placement (history b.seat) (map session_number b.sessions) b.greatest _ _ _ b.pending c.args.e c.prepared_of-prepared.result c.self.invariant.1 pending there in
+    let ready = entry_ready (history b.seat) _ _ _ b.pending c.self.invariant.1 pending in
     let space = ready.space in
-    rw (c.replace.ensures.after, seen_after (LogFailed c.args.e.session c.args.e.seq) (own_view c.args.counter.now) (book_view b.seat) c.announce.ensures.book, given_after (LogFailed c.args.e.session c.args.e.seq) (own_view c.args.counter.now) (book_view b.seat) c.announce.ensures.book)
+    rw (seen_after (LogFailed c.args.e.session c.args.e.seq) (own_view c.args.counter.now) (book_view b.seat) c.announce.ensures.book, given_after (LogFailed c.args.e.session c.args.e.seq) (own_view c.args.counter.now) (book_view b.seat) c.announce.ensures.book)
     (kept_log_failed c.self.invariant.0 c.args.e.session c.args.e.seq (omega (arith, space)) ready.idle, tt)
 
 -- ---- the entry comes
@@ -50,15 +42,13 @@ pub follow-requires-clause-place : goal.follow-requires-clause-place
 follow-requires-clause-place c =
     let b = c.self.inside in
     let pending = rw (← c.self.view_is) at c.requires.pending in
-    let there = ap prepared_of (sym c.replace.ensures.value) ∙ c.prepared_of-prepared.ensures in
-    (entry_ready b.placement (history b.seat) (map session_number b.sessions) b.greatest _ _ _ b.pending c.args.e c.prepared_of-prepared.result c.self.invariant.1 pending there).tx_place
+    (entry_ready (history b.seat) _ _ _ b.pending c.self.invariant.1 pending).tx_place
 
 pub put_entry-requires-clause-room : goal.put_entry-requires-clause-room
 put_entry-requires-clause-room c =
     let b = c.self.inside in
     let pending = rw (← c.self.view_is) at c.requires.pending in
-    let there = ap prepared_of (sym c.replace.ensures.value) ∙ c.prepared_of-prepared.ensures in
-    let place = (entry_ready b.placement (history b.seat) (map session_number b.sessions) b.greatest _ _ _ b.pending c.args.e c.prepared_of-prepared.result c.self.invariant.1 pending there).place in
+    let place = (entry_ready (history b.seat) _ _ _ b.pending c.self.invariant.1 pending).place in
     omega (arith, place)
 
 pub put_entry-requires-clause-legal : goal.put_entry-requires-clause-legal
@@ -66,10 +56,10 @@ put_entry-requires-clause-legal c =
     let b = c.self.inside in
     let h = history b.seat in
     let pending = rw (← c.self.view_is) at c.requires.pending in
-    let there = ap prepared_of (sym c.replace.ensures.value) ∙ c.prepared_of-prepared.ensures in
-    let ready = entry_ready b.placement h (map session_number b.sessions) b.greatest _ _ _ b.pending c.args.e c.prepared_of-prepared.result c.self.invariant.1 pending there in
+    let fit = rw (← c.self.view_is) at c.requires.fit in
+    let ready = entry_ready h _ _ _ b.pending c.self.invariant.1 pending in
     let space = ready.space in
-    subst (λ (x : Entry). IsLegal (h ++ Sched x ∷ [])) (sym c.filled.ensures) (legal_push h (Sched c.args.e) c.self.invariant.0.follows.legal (omega (arith, space)) (ready.idle, ready.fit))
+    subst (λ (x : Entry). IsLegal (h ++ Sched x ∷ [])) (sym c.filled.ensures) (legal_push h (Sched c.args.e) c.self.invariant.0.follows.legal (omega (arith, space)) (ready.idle, fit))
 
 pub put_entry-requires-clause-counts : goal.put_entry-requires-clause-counts
 put_entry-requires-clause-counts c =
@@ -84,29 +74,29 @@ invariant_of-self-2 c =
     let k = c.self.invariant.0 in
     let h = history b.seat in
     let e = c.args.e in
-    let hosts = c.prepared_of-prepared.result.hosts in
+    let hosts = c.args.prepared.hosts in
     let pending = rw (← c.self.view_is) at c.requires.pending in
-    let there = ap prepared_of (sym c.replace.ensures.value) ∙ c.prepared_of-prepared.ensures in
-    let ready = entry_ready b.placement h (map session_number b.sessions) b.greatest _ _ _ b.pending e c.prepared_of-prepared.result c.self.invariant.1 pending there in
+    let fit = rw (← c.self.view_is) at c.requires.fit in
+    let given = rw (← c.self.view_is) at c.requires.given in
+    let prepared = rw (← c.self.view_is) at c.requires.prepared in
+    let ready = entry_ready h _ _ _ b.pending c.self.invariant.1 pending in
     let count = rw (← c.self.view_is) at c.length-number.ensures in
     let space = ready.space in
     let entries : c.put_entry.new.entries.items ≡ b.entries.items ++ e ∷ [] = c.put_entry.ensures.entries ∙ ap (λ (x : Entry). b.entries.items ++ x ∷ []) c.filled.ensures in
     let events : history c.put_entry.new.seat ≡ h ++ Sched e ∷ [] = seen_after (Sched c.filled.result) (own_view c.args.counter.now) (book_view b.seat) c.put_entry.ensures.view ∙ ap (λ (x : Entry). h ++ Sched x ∷ []) c.filled.ensures in
     let sessions : c.follow-2.new.self ≡ sessions_after b.sessions (length (log h) + 1) e e.act = c.follow-2.ensures ∙ ap (λ n. sessions_after b.sessions (n + 1) e e.act) count in
     let transactions : c.follow.new.self.list ≡ transactions_after b.transactions.list (length (log h) + 1) hosts e e.act = c.follow.ensures ∙ ap (λ n. transactions_after b.transactions.list (n + 1) hosts e e.act) count in
-    let follows = follows_sched _ _ _ _ _ _ k.follows b.balancer b.cache e hosts b.enabled ready.fit ready.given ready.idle (omega (arith, space)) ready.prepared.hosts k.history.mask in
+    let follows = follows_sched _ _ _ _ _ _ k.follows b.balancer b.cache e hosts b.enabled fit given ready.idle (omega (arith, space)) prepared.hosts k.history.mask in
     let owners = given_after (Sched c.filled.result) (own_view c.args.counter.now) (book_view b.seat) c.put_entry.ensures.view in
-    rw (c.replace.ensures.after, entries, events, owners, sessions, transactions) (kept_sched k e ready.idle space follows (numbers_after (log h) e b.sessions (length (log h) + 1)), tt)
+    rw (entries, events, owners, sessions, transactions) (kept_sched k e ready.idle space follows (numbers_after (log h) e b.sessions (length (log h) + 1)), tt)
 
 pub returns-clause-state : goal.returns-clause-state
 returns-clause-state c =
     let b = c.self.inside in
     let h = history b.seat in
     let e = c.args.e in
-    let pending = rw (← c.self.view_is) at c.requires.pending in
-    let there = ap prepared_of (sym c.replace.ensures.value) ∙ c.prepared_of-prepared.ensures in
-    let ready = entry_ready b.placement h (map session_number b.sessions) b.greatest _ _ _ b.pending e c.prepared_of-prepared.result c.self.invariant.1 pending there in
+    let prepared = rw (← c.self.view_is) at c.requires.prepared in
     let events : history c.put_entry.new.seat ≡ h ++ Sched e ∷ [] = seen_after (Sched c.filled.result) (own_view c.args.counter.now) (book_view b.seat) c.put_entry.ensures.view ∙ ap (λ (x : Entry). h ++ Sched x ∷ []) c.filled.ensures in
     let numbers : map session_number c.follow-2.new.self ≡ map session_number b.sessions = ap (map session_number) c.follow-2.ensures ∙ numbers_after (log h) e b.sessions (c.length-number.result + 1) in
-    let touched : c.drop_needing.new.self ≡ without_touched (log h) e b.cache = c.drop_needing.ensures ∙ by_tables (log h) e c.prepared_of-prepared.result.tables b.cache ready.prepared.tables in
+    let touched : c.drop_needing.new.self ≡ without_touched (log h) e b.cache = c.drop_needing.ensures ∙ by_tables (log h) e c.args.prepared.tables b.cache prepared.tables in
     rw (← c.self.view_is, c.in-Ok.is, events, numbers, touched) refl

@@ -2,6 +2,8 @@ use Rattle.std.proofs.Common.{◌≡◌, ◌≤◌, ◌+◌, List, arith, ap, sy
 use mathlib.Core.List.{IsPrefix}
 use Rattle.cj_cluster.proofs.Pushed.{prefix_trans}
 use Rattle.cj_book.proofs.Cited.{BookState, Event, LogFailed, Sched, SeatView, after_join, event_or_fault, finished_longer, given_low, log, pass_view, pass_without_tokens, told_pass}
+use Rattle.cj_book.proofs.Common.{IsFitEntry, placement_at}
+use Rattle.cj_book.specs.Books.{IsPrepared}
 use Rattle.cj_book.specs.Events.{entry_finished, finished_as}
 use Rattle.cj_book.specs.Seated.{own_book_after, own_pass_after}
 use Rattle.cj_book.proofs.book.Book.finish_own.Goals as goal
@@ -16,6 +18,12 @@ finish_told-requires-clause-given c =
     let own = c.requires.own.0 in
     let le : c.args.e.session ≤ c.args.self.now.state.greatest = omega (arith, own, given, low) in
     subst (λ n. c.args.e.session ≤ n) (sym (ap (λ (b : BookState). b.greatest) c.tell.ensures.state)) le
+
+pub finish_told-requires-clause-fit : goal.finish_told-requires-clause-fit
+finish_told-requires-clause-fit c = subst (λ (b : BookState). IsFitEntry (log b.history) c.args.e) (sym c.tell.ensures.state) c.requires.fit
+
+pub finish_told-requires-clause-prepared : goal.finish_told-requires-clause-prepared
+finish_told-requires-clause-prepared c = subst (λ (b : BookState). IsPrepared (placement_at b) (log b.history) c.args.e c.args.prepared) (sym c.tell.ensures.state) c.requires.prepared
 
 pub returns-clause-answer : goal.returns-clause-answer
 returns-clause-answer c = c.finish_told.ensures.answer ∙ ap (λ (b : BookState). finished_as c.args.appended (length (log b.history) + 1)) c.tell.ensures.state

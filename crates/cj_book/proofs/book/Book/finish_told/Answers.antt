@@ -1,6 +1,9 @@
-use Rattle.std.proofs.Common.{◌≡◌, ◌<◌, ◌≤◌, ◌+◌, ℕ, List, Some, ap, sym, ◌∙◌, subst}
+use Rattle.std.proofs.Common.{◌≡◌, ◌<◌, ◌≤◌, ◌+◌, ℕ, List, Some, inl, ap, sym, ◌∙◌, subst}
 use Rattle.cj_book.proofs.Cited.{CanCount, Event, LogFailed, Sched, SeatView, entry_counts, event_count_of, event_or_fault, failure_counts, finished_greatest, finished_own, low_sessions, next_session, own_can_count, own_front, own_gives, own_same, pass_view, still_own}
 use Rattle.cj_book.proofs.book.Book.finish_told.Goals as goal
+
+pub finish_entry-result-requires-clause-given : goal.finish_entry-result-requires-clause-given
+finish_entry-result-requires-clause-given c = inl (c.requires.own.1, c.requires.given)
 
 pub finish_entry-result-requires-clause-counted : goal.finish_entry-result-requires-clause-counted
 finish_entry-result-requires-clause-counted c =

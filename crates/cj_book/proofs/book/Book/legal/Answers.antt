@@ -1,6 +1,7 @@
-use Rattle.std.proofs.Common.{◌≡◌, ◌≢◌, ◌≤◌, true, None, map, subst}
-use Rattle.cj_book.proofs.Common.{is_free}
-use Rattle.cj_book.proofs.Cited.{Entry, IsOfGiven, IsOfKnown, SeatedBook, given_known, given_session, history, pending_idle, session_number}
+use Rattle.std.proofs.Common.{◌≡◌, ◌≢◌, ◌≤◌, true, None, Some, subst}
+use Rattle.cj_book.proofs.Common.{events_left, is_free}
+use Rattle.cj_book.proofs.Cited.{Entry, IsOfGiven, IsOfKnown, SeatedBook, entry_ready, given_known, given_session, history, pending_idle}
+use Rattle.cj_book.specs.declared.pending.Pending.TheVariants as pending
 use Rattle.cj_book.proofs.book.Book.legal.Goals as goal
 
 pub returns-clause-given : goal.returns-clause-given
@@ -31,4 +32,10 @@ pub returns-clause-pending : goal.returns-clause-pending
 returns-clause-pending c =
     let b = c.self.inside in
     subst (λ (v : SeatedBook). v.pending ≢ None → is_free v.state.history ≡ true) c.self.view_is
-    (pending_idle b.placement (history b.seat) (map session_number b.sessions) b.greatest _ _ _ b.pending c.self.invariant.1)
+    (pending_idle (history b.seat) _ _ _ b.pending c.self.invariant.1)
+
+pub returns-clause-space : goal.returns-clause-space
+returns-clause-space c =
+    let b = c.self.inside in
+    subst (λ (v : SeatedBook). v.pending ≡ Some pending.Entry → 3 ≤ events_left v.state.history) c.self.view_is
+    (λ is. (entry_ready (history b.seat) _ _ _ b.pending c.self.invariant.1 is).space)

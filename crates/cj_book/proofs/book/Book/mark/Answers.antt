@@ -1,10 +1,14 @@
-use Rattle.std.proofs.Common.{◌≡◌, ℕ, ◌+◌, length, ap, sym, ◌∙◌, subst}
+use Rattle.std.proofs.Common.{◌≡◌, ℕ, ◌+◌, false, length, ap, sym, ◌∙◌, subst}
 use Rattle.cj_book.proofs.Cited.{BookState, HasCountNotes, LogFailed, LogFollows, Marker, SeatView, came_gives, event_or_fault, log, mark_sessions, marker_followed, marks, marks_greatest, next_session, unmarked}
+use Rattle.cj_cluster.specs.History.Histories.{has_marker}
 use Rattle.cj_book.specs.Events.{finished_as, marker_finished}
 use Rattle.cj_book.specs.Seated.{view_after}
 use Rattle.cj_book.proofs.book.Book.mark.Goals as goal
 
 -- the book is where it was
+pub finish_marker-requires-clause-fresh : goal.finish_marker-requires-clause-fresh
+finish_marker-requires-clause-fresh g c = subst (λ (b : BookState). has_marker b.history c.args.name.now ≡ false) (sym c.in_ok-item.ensures.state) c.requires.fresh
+
 pub finish_marker-requires-clause-counted : goal.finish_marker-requires-clause-counted
 finish_marker-requires-clause-counted g c =
     let same = c.in_ok-item.ensures in

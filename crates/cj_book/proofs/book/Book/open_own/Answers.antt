@@ -1,5 +1,5 @@
 use Rattle.std.proofs.Common.{◌+◌, arith, rules, sym}
-use Rattle.cj_book.proofs.Cited.{book_view, history, opened_note, pending_opened}
+use Rattle.cj_book.proofs.Cited.{book_view, history, opened_note}
 use Rattle.cj_book.proofs.Following.{follows_opened}
 use Rattle.cj_book.proofs.Owners.{open_own_more}
 use Rattle.cj_book.proofs.book.Book.open_own.Goals as goal
@@ -21,5 +21,5 @@ invariant_of-self-2 c =
         within = search rules;
         owned = rw c.in_ok-try_add.ensures.ok (open_own_more c.self.inside.sessions c.self.inside.greatest (book_view c.self.inside.seat) gives k.owned);
       },
-      rw c.in_ok-try_add.ensures.ok (pending_opened c.self.inside.placement (history c.self.inside.seat) c.self.inside.sessions c.self.inside.greatest _ _ _ k.follows.sessions.known c.self.inside.pending c.self.invariant.1),
+      c.self.invariant.1,
     )

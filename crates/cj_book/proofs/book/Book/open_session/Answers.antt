@@ -1,6 +1,6 @@
 use Rattle.std.proofs.Common.{◌+◌, rules}
 use Rattle.cj_book.proofs.Following.{follows_opened}
-use Rattle.cj_book.proofs.Cited.{book_view, history, pending_opened}
+use Rattle.cj_book.proofs.Cited.{book_view, history}
 use Rattle.cj_book.proofs.Owners.{open_more}
 use Rattle.cj_book.proofs.book.Book.open_session.Goals as goal
 
@@ -14,5 +14,5 @@ invariant_of-self c =
         within = search rules;
         owned = rw c.add.ensures (open_more c.self.inside.sessions (c.self.inside.greatest + 1) (book_view c.self.inside.seat).given k.owned);
       },
-      rw c.add.ensures (pending_opened c.self.inside.placement (history c.self.inside.seat) c.self.inside.sessions c.self.inside.greatest _ _ _ k.follows.sessions.known c.self.inside.pending c.self.invariant.1),
+      c.self.invariant.1,
     )

@@ -19,7 +19,7 @@ pub invariant_of-self : goal.invariant_of-self
 invariant_of-self c =
     let space = rw (← c.self.view_is) at c.in_ok-check_room.ensures in
     let none = rw (← c.self.view_is) at c.requires.pending in
-    rw c.append.ensures.book (kept_read_failed c.self.invariant.0 c.args.session c.args.seq c.args.b space, kept_for_none _ _ _ _ _ _ _ c.self.inside.pending none)
+    rw c.append.ensures.book (kept_read_failed c.self.invariant.0 c.args.session c.args.seq c.args.b space, kept_for_none _ _ _ _ c.self.inside.pending none)
 
 pub returns-clause-still_gives : goal.returns-clause-still_gives
 returns-clause-still_gives c = rw (← c.self.view_is, c.append.ensures.book) (next_after c.self.inside.greatest (book_view c.self.inside.seat) (ReadFailed c.args.session c.args.seq c.args.b) refl)

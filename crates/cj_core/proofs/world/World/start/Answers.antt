@@ -1,12 +1,12 @@
 use Rattle.std.proofs.Common.{ℕ, List, map, sym, ap, ◌∙◌, subst, ◌≡◌, true}
 use Rattle.cj_core.proofs.Cited.{CellState, Core, Event, IsPrefix, KeepsItems, Layout, LogItem, LogView, LosesNothing, OpensTo, WorldState, started_backend, fault_of_start, items_of, loses_nothing, opened_core, placement_of, refused_again, refused_part, started_well, starts_from, state_by}
-use Rattle.cj_core.proofs.StartNumbers.{started_numbers}
+use Rattle.cj_start.proofs.StartNumbers.{started_numbers}
 use Rattle.cj_core.proofs.world.World.start.Goals as goal
 
 pub returns-in-Ok-brought-clause-started : goal.returns-in-Ok-brought-clause-started
 returns-in-Ok-brought-clause-started g c =
     let b = g.B.Backend in
-    let book = c.in_ok-book.field-0.0.state in
+    let book = c.in_ok-book.book.state in
     let opened = c.in_ok-book.ensures.started in
     let went = c.in-Ok-brought.ensures in
     starts_from (λ (items : List LogItem). g.S.Store.tells ≡ true → KeepsItems (g.S.Store.held c.args.log) items) (items_of book.history) (placement_of c.args.parts.book.placement) book.history
@@ -16,7 +16,7 @@ returns-in-Ok-brought-clause-started g c =
 
 pub returns-in-Ok-brought-clause-kept : goal.returns-in-Ok-brought-clause-kept
 returns-in-Ok-brought-clause-kept g c = λ t.
-    let book = c.in_ok-book.field-0.0.state in
+    let book = c.in_ok-book.book.state in
     let opened = c.in_ok-book.ensures.started in
     let core = c.new-state.ensures.core in
     let opens : OpensTo (items_of c.new-state.result.core.history) c.new-state.result.core.history = subst (λ (h : List Event). OpensTo (items_of h) h) (sym (ap (λ (k : Core). k.history) core)) opened.opens in
@@ -36,7 +36,7 @@ pub returns-in-Err-clause-bytes : goal.returns-in-Err-clause-bytes
 returns-in-Err-clause-bytes g c = λ t.
     let held = g.S.Store.held in
     let old = held c.args.log in
-    let book = c.in_ok-book.field-0.0.state in
+    let book = c.in_ok-book.book.state in
     let opened = c.in_ok-book.ensures.started in
     let core = c.new-state.ensures.core in
     let now = c.bring_up-brought.new.state in

@@ -1,0 +1,177 @@
+"""Cursors of PEP 249. The rows of a SELECT are all here once `execute` returns."""
+from __future__ import annotations
+
+from collections.abc import Iterable, Iterator, Sequence
+from types import TracebackType
+from typing import TYPE_CHECKING, Optional
+
+from .errors import InterfaceError, NotSupportedError, ProgrammingError
+from .kinds import NUMBER, STRING, TypeObject
+from .statements import many, parameters_of, statement_bytes, template_of, verb_of
+from .wire import Rows, Value
+
+if TYPE_CHECKING:
+    from .connection import Connection
+
+Row = tuple[Value, ...]
+Column = tuple[str, Optional[TypeObject], None, None, None, None, bool]
+
+_COUNTED = ("INSERT", "UPDATE", "DELETE")
+
+
+class Cursor:
+    """Executes statements of a connection and hands out the rows of the last SELECT."""
+
+    def __init__(self, connection: Connection) -> None:
+        self.connection = connection
+        self.arraysize = 1
+        # The rows of the last SELECT, or how many rows were changed; -1 where neither is known.
+        self.rowcount = -1
+        # What PEP 249 says of the columns of the last SELECT. Kinds are those of the first row, None without rows.
+        self.description: Optional[tuple[Column, ...]] = None
+        # cjc has no hidden row numbers.
+        self.lastrowid: None = None
+        self._rows: Optional[list[Row]] = None
+        self._next = 0
+        self._closed = False
+
+    # ---- statements
+
+    def execute(self, operation: str, parameters: Optional[Sequence[object]] = None) -> Cursor:
+        """Executes a statement, with a parameter for each question mark outside of strings.
+
+        Fails with the class of the server's refusal (docs/CLIENTS.md). Before anything is sent it fails with
+        ProgrammingError where the number of parameters is wrong, and with DataError or NotSupportedError where one
+        has no literal.
+        """
+        self._reset()
+        text = template_of(operation).bind(parameters_of(parameters))
+        verb = verb_of(operation)
+        self._take(verb, self.connection.request(verb, statement_bytes(text)))
+        return self
+
+    def executemany(self, operation: str, seq_of_parameters: Iterable[Sequence[object]]) -> Cursor:
+        """Executes a statement with each of these sequences of parameters; `rowcount` is that of all.
+
+        An INSERT goes as one statement of many tuples, up to 4,096 tuples and 1 MiB. So if one tuple is refused, none
+        of its statement is inserted. If a later statement fails, those before it are executed, and `rowcount`
+        counts their rows. A SELECT fails with ProgrammingError.
+        """
+        self._reset()
+        verb = verb_of(operation)
+        if verb == "SELECT":
+            raise ProgrammingError("executemany takes no SELECT: execute it with each of the parameters")
+        statements, total = many(operation, seq_of_parameters), 0
+        for statement in statements:
+            total += self.connection.request(verb, statement).count  # type: ignore[union-attr]
+            self.rowcount = total if verb in _COUNTED else -1
+        if not statements and verb in _COUNTED:
+            self.rowcount = 0
+        return self
+
+    def callproc(self, procname: str, parameters: Optional[Sequence[object]] = None) -> None:
+        """Fails with NotSupportedError: cjc has no stored procedures."""
+        raise NotSupportedError(f"cjc has no stored procedures, so none is {procname}")
+
+    def setinputsizes(self, sizes: Sequence[object]) -> None:
+        """Does nothing: parameters need no buffers."""
+
+    def setoutputsize(self, size: int, column: Optional[int] = None) -> None:
+        """Does nothing: rows arrive whole."""
+
+    # ---- rows
+
+    def fetchone(self) -> Optional[Row]:
+        """The next row, or None after the last. Fails with ProgrammingError where no SELECT was executed."""
+        rows = self._result()
+        if self._next >= len(rows):
+            return None
+        self._next += 1
+        return rows[self._next - 1]
+
+    def fetchmany(self, size: Optional[int] = None) -> list[Row]:
+        """The next `size` rows, by default `arraysize`, or as many as are left."""
+        size = self.arraysize if size is None else size
+        if size < 0:
+            raise ProgrammingError("a number of rows is not below 0")
+        found = self._result()[self._next:self._next + size]
+        self._next += len(found)
+        return found
+
+    def fetchall(self) -> list[Row]:
+        """All rows that are left."""
+        found = self._result()[self._next:]
+        self._next += len(found)
+        return found
+
+    def scroll(self, value: int, mode: str = "relative") -> None:
+        """Moves to another row by PEP 249. Fails with IndexError where there is none, and stays."""
+        if mode not in ("relative", "absolute"):
+            raise ProgrammingError("the mode of scroll is 'relative' or 'absolute'")
+        place = value + (self._next if mode == "relative" else 0)
+        if not 0 <= place <= len(self._result()):
+            raise IndexError(f"row {place} of {len(self._result())}")
+        self._next = place
+
+    @property
+    def rownumber(self) -> Optional[int]:
+        """The index of the row that is fetched next, from 0; None without rows."""
+        return None if self._rows is None else self._next
+
+    def nextset(self) -> None:
+        """None: a statement has one set of rows. It leaves none of the rows to fetch."""
+        self._next = len(self._result())
+
+    def __iter__(self) -> Iterator[Row]:
+        return self
+
+    def __next__(self) -> Row:
+        row = self.fetchone()
+        if row is None:
+            raise StopIteration
+        return row
+
+    # ---- its end
+
+    def close(self) -> None:
+        """Lets the rows go. Each later call fails with InterfaceError."""
+        self._forget()
+        self._closed = True
+
+    def __enter__(self) -> Cursor:
+        return self
+
+    def __exit__(self, _: Optional[type[BaseException]], __: Optional[BaseException],
+                 ___: Optional[TracebackType]) -> None:
+        self.close()
+
+    # ---- within
+
+    def _check(self) -> None:
+        if self._closed:
+            raise InterfaceError("the cursor is closed")
+
+    def _forget(self) -> None:
+        self.description, self.rowcount, self._rows, self._next = None, -1, None, 0
+
+    def _reset(self) -> None:
+        """Forgets the last result before a new statement."""
+        self._check()
+        self._forget()
+
+    def _result(self) -> list[Row]:
+        self._check()
+        if self._rows is None:
+            raise ProgrammingError("there are no rows: the last statement was no SELECT, or there was none")
+        return self._rows
+
+    def _take(self, verb: str, reply: object) -> None:
+        """Keeps the reply to a statement."""
+        if isinstance(reply, Rows):
+            first: Row = reply.rows[0] if reply.rows else ()
+            kinds = [NUMBER if isinstance(value, int) else STRING for value in first] or [None] * len(reply.names)
+            self.description = tuple((name, kind, None, None, None, None, False)
+                                     for name, kind in zip(reply.names, kinds))
+            self._rows, self.rowcount = reply.rows, len(reply.rows)
+        elif verb in _COUNTED:
+            self.rowcount = getattr(reply, "count")

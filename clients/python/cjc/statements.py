@@ -1,0 +1,147 @@
+"""Statements with question marks: their first words, their parameters put in, and INSERTs of many tuples."""
+from __future__ import annotations
+
+import re
+from collections.abc import Iterable, Sequence
+from dataclasses import dataclass
+
+from .errors import DataError, ProgrammingError
+from .literals import encoded, literal
+from .wire import STATEMENT_MOST
+
+# The most tuples of an INSERT.
+TUPLES_MOST = 4_096
+
+CHANGES = frozenset(("INSERT", "UPDATE", "DELETE"))
+SCHEMA = frozenset(("CREATE", "DROP"))
+ENDS = frozenset(("COMMIT", "ROLLBACK"))
+
+_VERB = re.compile(r"[ \t\r\n]*([A-Za-z_][A-Za-z0-9_]*)")
+# A string, also one that isn't closed, or a question mark. (A doubled quote ends a string and begins the next.)
+_MARKS = re.compile(r"'[^']*(?:'|\Z)|\?")
+_PARENTHESES = re.compile(r"'[^']*(?:'|\Z)|[()]")
+# The semicolon that may end a request, with the white space around it.
+_TAIL_END = re.compile(r"[ \t\r\n]*;?[ \t\r\n]*\Z")
+_INSERT = re.compile(
+    r"[ \t\r\n]*INSERT[ \t\r\n]+INTO[ \t\r\n]+[a-z_][a-z0-9_]*[ \t\r\n]*(?:\([^()']*\)[ \t\r\n]*)?VALUES(?![a-z0-9_])",
+    re.IGNORECASE | re.ASCII)
+
+
+def verb_of(text: str) -> str:
+    """The first word in upper case, or '' where the text begins with none."""
+    found = _VERB.match(text)
+    return found.group(1).upper() if found else ""
+
+
+@dataclass(frozen=True)
+class Template:
+    """A text cut at its question marks, those in strings aside. A literal goes between each two pieces."""
+
+    pieces: tuple[str, ...]
+
+    @property
+    def count(self) -> int:
+        """How many parameters it wants."""
+        return len(self.pieces) - 1
+
+    def bind(self, parameters: Sequence[object]) -> str:
+        """The text with these parameters. Fails with ProgrammingError, DataError or NotSupportedError."""
+        if len(parameters) != self.count:
+            raise ProgrammingError(f"{self.count} question marks, but {len(parameters)} parameters")
+        if not parameters:
+            return self.pieces[0]
+        parts = [self.pieces[0]]
+        for value, piece in zip(parameters, self.pieces[1:]):
+            parts.append(literal(value))
+            parts.append(piece)
+        return "".join(parts)
+
+
+def template_of(text: str) -> Template:
+    """The template of a text."""
+    pieces, start = [], 0
+    for mark in _MARKS.finditer(text):
+        if mark.group() == "?":
+            pieces.append(text[start:mark.start()])
+            start = mark.end()
+    pieces.append(text[start:])
+    last = len(pieces) - 1
+    return Template(tuple(_apart(piece, n > 0, n < last) for n, piece in enumerate(pieces)))
+
+
+def _apart(piece: str, after: bool, before: bool) -> str:
+    """The piece with blanks where a literal after or before it would else become one token with it."""
+    if after and before and not piece:
+        return " "
+    if after and piece and (piece[0].isalnum() or piece[0] in "_'"):
+        piece = " " + piece
+    # (two hyphens side by side are refused, so that of -1 stays apart from one before it)
+    if before and piece and (piece[-1].isalnum() or piece[-1] in "_'-"):
+        piece += " "
+    return piece
+
+
+def parameters_of(given: object) -> Sequence[object]:
+    """The parameters as a sequence; None is none. Fails with ProgrammingError for another object, such as a text."""
+    if given is None:
+        return ()
+    if isinstance(given, (list, tuple)):
+        return given
+    if isinstance(given, (str, bytes, bytearray)) or not isinstance(given, Sequence):
+        raise ProgrammingError(
+            f"parameters are a sequence, such as the tuple (value,), and not a {type(given).__name__}")
+    return given
+
+
+def statement_bytes(text: str) -> bytes:
+    """The statement as it is sent. Fails with DataError where no frame holds it, or UTF-8 can't write it."""
+    sent = encoded(text)
+    if len(sent) > STATEMENT_MOST:
+        raise DataError(f"the statement has {len(sent):,} bytes, and a frame holds {STATEMENT_MOST:,}")
+    return sent
+
+
+def many(text: str, sets: Iterable[object]) -> list[bytes]:
+    """The statements that execute the text with each of these sets of parameters.
+
+    An INSERT becomes one statement of many tuples, and more only past 4,096 tuples or the frame's limit. All are
+    made before any is sent. Fails as `Template.bind` and `statement_bytes` do.
+    """
+    insert = _INSERT.match(text)
+    if insert is None:
+        template = template_of(text)
+        return [statement_bytes(template.bind(parameters_of(given))) for given in sets]
+    tail = _TAIL_END.sub("", text[insert.end():])
+    template = template_of(tail)
+    tuples = [encoded(template.bind(parameters_of(given))) for given in sets]
+    return _joined(encoded(insert.group()) + b" ", tuples, max(1, TUPLES_MOST // max(1, _tuples_in(tail))))
+
+
+def _tuples_in(tail: str) -> int:
+    """How many tuples follow VALUES: parentheses that are opened outside of others."""
+    depth = found = 0
+    for mark in _PARENTHESES.finditer(tail):
+        if mark.group() == "(":
+            found += depth == 0
+            depth += 1
+        elif mark.group() == ")":
+            depth -= 1
+    return found
+
+
+def _joined(head: bytes, tuples: list[bytes], most: int) -> list[bytes]:
+    """INSERTs of the tuples, each with at most so many of them and within a frame."""
+    statements: list[bytes] = []
+    batch: list[bytes] = []
+    size = len(head)
+    for piece in tuples:
+        if batch and (len(batch) == most or size + len(piece) + 2 > STATEMENT_MOST):
+            statements.append(head + b", ".join(batch))
+            batch, size = [], len(head)
+        if len(head) + len(piece) > STATEMENT_MOST:
+            raise DataError(f"a tuple of {len(piece):,} bytes needs a statement longer than {STATEMENT_MOST:,}")
+        batch.append(piece)
+        size += len(piece) + 2
+    if batch:
+        statements.append(head + b", ".join(batch))
+    return statements

@@ -1,0 +1,12 @@
+pub mod Cited
+pub mod Common
+pub mod NotScheduled
+pub mod SoloAsks
+pub mod SoloCache
+pub mod SoloLogins
+pub mod SoloReads
+pub mod SoloTaking
+pub mod SoloTurns
+pub mod SoloWrites
+pub mod WriteCache
+pub mod WriteStarving

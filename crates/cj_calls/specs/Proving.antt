@@ -1,0 +1,2 @@
+-- The contracts of parts of calls, for proofs alone.
+pub mod SoloParts

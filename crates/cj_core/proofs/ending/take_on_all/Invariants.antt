@@ -1,5 +1,0 @@
-use Rattle.cj_core.proofs.StartTakes.{TakenOnTo}
-use Rattle.cj_core.proofs.ending.take_on_all.Given as goal
-
-abbrev pub invariant-loop-b : goal.invariant-loop-b
-invariant-loop-b g l = TakenOnTo l.fn.state l.state l.b

@@ -1,5 +1,0 @@
-use Rattle.cj_core.specs.Proving.StartParts.{EnabledTo}
-use Rattle.cj_core.proofs.replaying.enable_everywhere.Given as goal
-
-abbrev pub invariant-loop-b : goal.invariant-loop-b
-invariant-loop-b g l = EnabledTo l.fn.state l.state l.b

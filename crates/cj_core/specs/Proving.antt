@@ -1,3 +1,0 @@
--- The contracts of parts of calls, for proofs alone.
-pub mod SoloParts
-pub mod StartParts

@@ -1,0 +1,3 @@
+pub mod AlikeDesks
+pub mod QuietSolos
+pub mod QuietStarts

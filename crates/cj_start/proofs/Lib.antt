@@ -1,0 +1,10 @@
+pub mod Cited
+pub mod Common
+pub mod StartCache
+pub mod StartEnables
+pub mod StartEnds
+pub mod StartLonger
+pub mod StartNumbers
+pub mod StartReplays
+pub mod StartTakes
+pub mod StartWhole
