@@ -6,7 +6,6 @@ use Rattle.cj_model.specs.declared.request.Entry.{Entry}
 use Rattle.cj_model.specs.Cluster.Placements.{Placement}
 use Rattle.cj_model.specs.Sql.PlainRequests.{request_of}
 use Rattle.cj_cluster.specs.declared.event.Event.{Event}
-use Rattle.cj_cluster.specs.declared.event.Event.TheVariants.{Sched}
 use Rattle.cj_cluster.specs.History.Answering.{HasNoServer, HasServer}
 use Rattle.cj_cluster.specs.History.Histories.{is_free, log}
 use Rattle.cj_cluster.specs.History.Legality.{IsFitEntry, IsLegal}
@@ -17,7 +16,10 @@ use Rattle.cj_log.specs.declared.item.LogItem.{LogItem}
 use Rattle.cj_log.specs.Items.{CanAppend}
 use Rattle.cj_recovery.specs.Openings.{entry_item}
 use Rattle.cj_book.specs.BookLogs.{BookLogState, LogFollows}
-use Rattle.cj_book.specs.Books.{placement_at, BookState, CanSchedule}
+use Rattle.cj_book.specs.Books.{placement_at, BookState, CanSchedule, IsPrepared}
+use Rattle.cj_book.specs.declared.pending.Pending.{Pending}
+use Rattle.cj_book.specs.declared.pending.Pending.TheVariants as pending
+use Rattle.cj_book.specs.declared.pending.Prepared.{Prepared}
 use Rattle.cj_book.specs.Events.{BeginsEntry}
 use Rattle.cj_book.specs.declared.error.BookError.{BookError}
 use Rattle.cj_book.specs.declared.error.BookError.TheVariants.{InProgress, NoBackend, HistoryFull, LogFault, NoMemory}
@@ -54,15 +56,17 @@ refused_earlier p F H G e error longer same since = record { m = since.m; longer
 
 -- ---- begun
 
-module _ {S : Type 0} (tells : Bool) (count : S → ℕ) (p : Placement) (old : BookState) (laid : placement_at old ≡ p) (e : Entry) (amount : ℕ) (l : BookLogState S) (item : LogItem) where
-  pub begins_now : CanSchedule old e.act → (item ≡ entry_item (length (log old.history) + 1) e) × CanAppend item → LogFollows tells count l old.history → amount ≡ turn_amount old.history (Some (Sched e))
-      → (F G : List Event) → F ≡ old.history → G ≡ old.history → BeginsSince tells count p F G e amount l item
-  begins_now can its follows counted F G before after = record {
+module _ {S : Type 0} (tells : Bool) (count : S → ℕ) (p : Placement) (old : BookState) (laid : placement_at old ≡ p) (e : Entry) (prepared : Prepared) (amount : ℕ) (l : BookLogState S) (item : LogItem) where
+  pub begins_now : CanSchedule old e.act → IsFitEntry (log old.history) e → IsPrepared (placement_at old) (log old.history) e prepared → (item ≡ entry_item (length (log old.history) + 1) e) × CanAppend item → LogFollows tells count l old.history → amount ≡ turn_amount old.history (Some pending.Entry)
+      → (F G : List Event) → F ≡ old.history → G ≡ old.history → BeginsSince tells count p F G e prepared amount l item
+  begins_now can fit ready its follows counted F G before after = record {
     holds = record {
       m = old.history;
       was_free = can.is_free;
       served = subst (λ (q : Placement). HasServer q old.history (request_of e.act)) laid can.served;
       space = can.space;
+      fit = fit;
+      its = subst (λ (q : Placement). IsPrepared q (log old.history) e prepared) laid ready;
       seen = subst (IsPrefix old.history) (sym after) (prefix_self old.history);
       turn = counted;
       follows = follows;
@@ -73,14 +77,14 @@ module _ {S : Type 0} (tells : Bool) (count : S → ℕ) (p : Placement) (old : 
     its = its;
   }
 
-pub begun_earlier : {S : Type 0} (tells : Bool) (count : S → ℕ) (p : Placement) (F H G : List Event) (e : Entry) (amount : ℕ) (l : BookLogState S) (item : LogItem) → IsPrefix F H → event_count_of e.session H ≡ event_count_of e.session F → BeginsSince tells count p H G e amount l item → BeginsSince tells count p F G e amount l item
-begun_earlier tells count p F H G e amount l item longer same since = record { holds = since.holds; longer = prefix_trans F H since.holds.m longer since.longer; quiet = since.quiet ∙ same; is = since.is; its = since.its }
+pub begun_earlier : {S : Type 0} (tells : Bool) (count : S → ℕ) (p : Placement) (F H G : List Event) (e : Entry) (prepared : Prepared) (amount : ℕ) (l : BookLogState S) (item : LogItem) → IsPrefix F H → event_count_of e.session H ≡ event_count_of e.session F → BeginsSince tells count p H G e prepared amount l item → BeginsSince tells count p F G e prepared amount l item
+begun_earlier tells count p F H G e prepared amount l item longer same since = record { holds = since.holds; longer = prefix_trans F H since.holds.m longer since.longer; quiet = since.quiet ∙ same; is = since.is; its = since.its }
 
 -- an entry that is begun counts one
-pub amount_begun : (h : List Event) (pending : Option Event) → pending ≡ None → (e : Entry) → turn_amount h pending + 1 ≡ turn_amount h (Some (Sched e))
-amount_begun h pending none e =
-    let a : pending_weight pending ≡ 0 = ap pending_weight none in
-    let b : pending_weight (Some (Sched e)) ≡ 1 = refl in
+pub amount_begun : (h : List Event) (item : Option Pending) → item ≡ None → turn_amount h item + 1 ≡ turn_amount h (Some pending.Entry)
+amount_begun h item none =
+    let a : pending_weight item ≡ 0 = ap pending_weight none in
+    let b : pending_weight (Some pending.Entry) ≡ 1 = refl in
     omega (arith, a, b)
 
 -- ---- by result

@@ -14,7 +14,7 @@ use Rattle.cj_model.specs.Sql.PlainRequests.{request_of}
 use Rattle.cj_model.proofs.MaskBits.{has_without}
 use Rattle.cj_model.proofs.Masks.{has-zero}
 use Rattle.cj_cluster.specs.declared.event.Event.{Event}
-use Rattle.cj_cluster.specs.declared.event.Event.TheVariants.{Sched, Ended, ReadFailed, LogFailed, Disabled, Enabled, Marker}
+use Rattle.cj_cluster.specs.declared.event.Event.TheVariants.{Sched, Ended}
 use Rattle.cj_cluster.specs.History.Answering.{AnswersEntry, HasServer, IsTarget}
 use Rattle.cj_cluster.specs.History.Histories.{ended_count, is_enabled, is_free, log, open_entry_of, outcome_of}
 use Rattle.cj_cluster.specs.History.Legality.{AreFitMasks}
@@ -27,6 +27,8 @@ use Rattle.cj_board.proofs.FaultPoint.{tokens-append}
 use Rattle.cj_book.specs.BookLogs.{BookLogState, LogFollows}
 use Rattle.cj_book.specs.Books.{is_target_at, BookState}
 use Rattle.cj_book.specs.Seated.{SeatedBook}
+use Rattle.cj_book.specs.declared.pending.Pending.{Pending}
+use Rattle.cj_book.specs.declared.pending.Pending.TheVariants as pending
 use Rattle.cj_book.proofs.LogFollowing.{log_more}
 use Rattle.cj_replica.specs.declared.replica.Caught.TheVariants as caught
 use Rattle.cj_replica.proofs.Longer.{outcome_longer}
@@ -60,39 +62,44 @@ holds_on tells count p G H n e amount l longer holds = record { at = scheduled_o
 
 -- ---- what the turn's amount tells
 
-no_weight : (pending : Option Event) → pending_weight pending ≡ 0 → pending ≡ None
-no_weight None is = refl
-no_weight (Some x) is = absurd (some_weight x is)
-  where
-    some_weight : (x : Event) → pending_weight (Some x) ≡ 0 → ⊥
-    some_weight (Sched e) is = cc is
-    some_weight (Ended f s) is = cc is
-    some_weight (ReadFailed s q b) is = cc is
-    some_weight (LogFailed s q) is = cc is
-    some_weight (Disabled b) is = cc is
-    some_weight (Enabled b) is = cc is
-    some_weight (Marker name b) is = cc is
+same_weight : (a b : Option Pending) → pending_weight a ≡ pending_weight b → b ≡ a
+same_weight None None is = refl
+same_weight None (Some pending.Entry) is = absurd (cc is)
+same_weight None (Some pending.Marker) is = absurd (cc is)
+same_weight (Some pending.Entry) None is = absurd (cc is)
+same_weight (Some pending.Entry) (Some pending.Entry) is = refl
+same_weight (Some pending.Entry) (Some pending.Marker) is = absurd (cc is)
+same_weight (Some pending.Marker) None is = absurd (cc is)
+same_weight (Some pending.Marker) (Some pending.Entry) is = absurd (cc is)
+same_weight (Some pending.Marker) (Some pending.Marker) is = refl
 
--- as much as at a history before it: no event came that needs the turn, and nothing is pending
-pub same_amount : (g h : List Event) (pending : Option Event) → IsPrefix g h → turn_amount g None ≡ turn_amount h pending → (turn_events_of h ≡ turn_events_of g) × (pending ≡ None)
-same_amount g h pending longer same =
+below_three : (a : Option Pending) → pending_weight a < 3
+below_three None = omega arith
+below_three (Some pending.Entry) = omega arith
+below_three (Some pending.Marker) = omega arith
+
+-- as much as at a history before it: no event came that needs the turn, and the same is pending
+pub same_amount : (g h : List Event) (a b : Option Pending) → IsPrefix g h → turn_amount g a ≡ turn_amount h b → (turn_events_of h ≡ turn_events_of g) × (b ≡ a)
+same_amount g h a b longer same =
     let more : turn_events_of g ≤ turn_events_of h = subst (λ (x : List Event). turn_events_of g ≤ turn_events_of x) longer.1 (turn_events_more g longer.0) in
-    let same' : 3 * turn_events_of g + 0 ≡ 3 * turn_events_of h + pending_weight pending = same in
-    (omega arith, no_weight pending (omega arith))
+    let same' : 3 * turn_events_of g + pending_weight a ≡ 3 * turn_events_of h + pending_weight b = same in
+    let u = below_three a in
+    let v = below_three b in
+    (omega arith, same_weight a b (omega arith))
 
 -- ---- what the ledger counts
 
 -- a book of which the history and what is pending are as before
 pub same_counted : (x y : SeatedBook) → y.state ≡ x.state → y.pending ≡ x.pending → turn_amount y.state.history y.pending ≡ turn_amount x.state.history x.pending
-same_counted x y state pending = ap (λ (z : BookState × Option Event). turn_amount z.0.history z.1) (λ i. (state i, pending i))
+same_counted x y state pending = ap (λ (z : BookState × Option Pending). turn_amount z.0.history z.1) (λ i. (state i, pending i))
 
 -- the end of an entry counts three
-pub amount_ended : (h : List Event) (pending : Option Event) → pending ≡ None → (failed starved : ℕ) (H : List Event) (pending' : Option Event) → H ≡ h ++ Ended failed starved ∷ [] → pending' ≡ None → turn_amount h pending + 3 ≡ turn_amount H pending'
-amount_ended h pending none failed starved H pending' now none' =
+pub amount_ended : (h : List Event) (item : Option Pending) → item ≡ None → (failed starved : ℕ) (H : List Event) (item' : Option Pending) → H ≡ h ++ Ended failed starved ∷ [] → item' ≡ None → turn_amount h item + 3 ≡ turn_amount H item'
+amount_ended h item none failed starved H item' now none' =
     let push : turn_events_of (h ++ Ended failed starved ∷ []) ≡ turn_events_of h + 1 = turn_events_push h (Ended failed starved) in
     let its : turn_events_of H ≡ turn_events_of h + 1 = ap turn_events_of now ∙ push in
-    let a : pending_weight pending ≡ 0 = ap pending_weight none in
-    let b : pending_weight pending' ≡ 0 = ap pending_weight none' in
+    let a : pending_weight item ≡ 0 = ap pending_weight none in
+    let b : pending_weight item' ≡ 0 = ap pending_weight none' in
     omega (arith, its, a, b)
 
 -- ---- masks
@@ -171,8 +178,8 @@ module _ (h : List Event) (enabled : ℕ) (mask : (b : ℕ) → in_mask enabled 
 
 -- ---- the end
 
-module _ {S : Type 0} (tells : Bool) (count : S → ℕ) (p : Placement) (F h : List Event) (n : ℕ) (e : Entry) (amount : ℕ) (l : BookLogState S) (holds : HoldsEntry tells count p F n e amount l) (longer : IsPrefix F h) (pending : Option Event)
-    (whole : amount ≡ turn_amount h pending) where
+module _ {S : Type 0} (tells : Bool) (count : S → ℕ) (p : Placement) (F h : List Event) (n : ℕ) (e : Entry) (amount : ℕ) (l : BookLogState S) (holds : HoldsEntry tells count p F n e amount l) (longer : IsPrefix F h) (item : Option Pending)
+    (whole : amount ≡ turn_amount h item) where
   abbrev m : List Event
   m = holds.at.m
 
@@ -182,10 +189,10 @@ module _ {S : Type 0} (tells : Bool) (count : S → ℕ) (p : Placement) (F h : 
   begins : IsPrefix begun h
   begins = prefix_trans begun F h holds.at.next longer
 
-  same : (turn_events_of h ≡ turn_events_of begun) × (pending ≡ None)
-  same = same_amount begun h pending begins (sym holds.turn ∙ whole)
+  same : (turn_events_of h ≡ turn_events_of begun) × (item ≡ None)
+  same = same_amount begun h None item begins (sym holds.turn ∙ whole)
 
-  pub end_unpending : pending ≡ None
+  pub end_unpending : item ≡ None
   end_unpending = same.1
 
   stays : TurnStays begun h

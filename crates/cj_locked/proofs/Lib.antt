@@ -1,5 +1,6 @@
 pub mod Beginning
 pub mod Ending
+pub mod Finishing
 pub mod Following
 pub mod Passes
 pub mod Taking

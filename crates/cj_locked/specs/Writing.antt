@@ -14,6 +14,7 @@ use Rattle.cj_cluster.specs.declared.event.Event.{Event}
 use Rattle.cj_cluster.specs.declared.event.Event.TheVariants.{Sched, Ended, LogFailed}
 use Rattle.cj_cluster.specs.History.Answering.{AnswersEntry, HasNoServer, HasServer}
 use Rattle.cj_cluster.specs.History.Histories.{ended_count, events_left, is_free, log, open_entry_of, tx_of}
+use Rattle.cj_cluster.specs.History.Legality.{IsFitEntry}
 use Rattle.cj_cluster.specs.History.Turns.{SessionView, Turn, entry_count_of, tx_after_entry}
 use Rattle.cj_cluster.specs.Moves.Runs.{call_of_entry}
 use Rattle.cj_board.specs.Counting.{event_count_of}
@@ -25,6 +26,9 @@ use Rattle.cj_log.specs.declared.item.LogItem.{LogItem}
 use Rattle.cj_log.specs.Items.{CanAppend}
 use Rattle.cj_recovery.specs.Openings.{entry_item}
 use Rattle.cj_book.specs.BookLogs.{BookLogState, LogFollows}
+use Rattle.cj_book.specs.Books.{IsPrepared}
+use Rattle.cj_book.specs.declared.pending.Pending.TheVariants as pending
+use Rattle.cj_book.specs.declared.pending.Prepared.{Prepared}
 use Rattle.cj_tally.specs.declared.tally.Tally.{Tally}
 use Rattle.cj_locked.specs.Turns.{turn_amount}
 
@@ -39,21 +43,23 @@ pub record IsScheduledIn (p : Placement) (G : List Event) (n : ℕ) (e : Entry) 
   pub number : n ≡ length (log m) + 1
   pub next : IsPrefix (m ++ Sched e ∷ []) G
 
--- Who began an entry at history m, where it could come, has the turn: the turn's amount has the entry as pending,
--- and the log follows that history. G goes on from there.
-pub record HoldsPending {S : Type 0} (tells : Bool) (count : S → ℕ) (p : Placement) (G : List Event) (e : Entry) (amount : ℕ) (l : BookLogState S) : Type 0 where
+-- Who began an entry at history m, where it could come, has the turn: the turn's amount has an entry as pending, and
+-- the log follows that history. What the entry needs was prepared there. G goes on from there.
+pub record HoldsPending {S : Type 0} (tells : Bool) (count : S → ℕ) (p : Placement) (G : List Event) (e : Entry) (prepared : Prepared) (amount : ℕ) (l : BookLogState S) : Type 0 where
   pub m : List Event
   pub was_free : is_free m ≡ true
   pub served : HasServer p m (request_of e.act)
   pub space : 3 ≤ events_left m
+  pub fit : IsFitEntry (log m) e
+  pub its : IsPrepared p (log m) e prepared
   pub seen : IsPrefix m G
-  pub turn : amount ≡ turn_amount m (Some (Sched e))
+  pub turn : amount ≡ turn_amount m (Some pending.Entry)
   pub follows : LogFollows tells count l m
 
 -- it was begun now, since the session had seen F, and nothing else of the session came since; this is its item for
 -- the log
-pub record BeginsSince {S : Type 0} (tells : Bool) (count : S → ℕ) (p : Placement) (F G : List Event) (e : Entry) (amount : ℕ) (l : BookLogState S) (item : LogItem) : Type 0 where
-  pub holds : HoldsPending tells count p G e amount l
+pub record BeginsSince {S : Type 0} (tells : Bool) (count : S → ℕ) (p : Placement) (F G : List Event) (e : Entry) (prepared : Prepared) (amount : ℕ) (l : BookLogState S) (item : LogItem) : Type 0 where
+  pub holds : HoldsPending tells count p G e prepared amount l
   pub longer : IsPrefix F holds.m
   pub quiet : event_count_of e.session holds.m ≡ event_count_of e.session F
   pub is : G ≡ holds.m
@@ -65,6 +71,13 @@ abbrev pub FollowsAppend : {S : Type 0} → Bool → (S → ℕ) → BookLogStat
 FollowsAppend tells count l h e (Ok u) = LogFollows tells count l (h ++ Sched e ∷ [])
 FollowsAppend tells count l h e (Err log_errors.Failed) = LogFollows tells count l (h ++ LogFailed e.session e.seq ∷ [])
 FollowsAppend tells count l h e (Err log_errors.NoMemory) = LogFollows tells count l h
+
+-- Who began an entry and had the log asked to append its item. The log followed the history as `before` until then.
+-- Now it follows the history in which the event of the answer has come.
+pub record HoldsAppended {S : Type 0} (tells : Bool) (count : S → ℕ) (p : Placement) (G : List Event) (e : Entry) (prepared : Prepared) (amount : ℕ) (l : BookLogState S) (appended : Result Unit LogError) : Type 0 where
+  pub before : BookLogState S
+  pub holds : HoldsPending tells count p G e prepared amount before
+  pub follows : (h : List Event) → LogFollows tells count before h → length (log h) ≡ length (log holds.m) → FollowsAppend tells count l h e appended
 
 -- it was scheduled now, since the session had seen F, and nothing else of the session came since
 pub record SchedulesSince (p : Placement) (F G : List Event) (n : ℕ) (e : Entry) : Type 0 where

@@ -2,7 +2,7 @@
 
 ghost use Rattle.std.specs.Prelude.{◌≡◌, ◌-◌, ◌<◌, IfOk, IfErr, OnErr, ◌&&◌, not, ℕ, Bool, true, false, length, None, Some, IsNone, is_none};
 ghost use Rattle.cj_model.specs.Cluster.Masks.{in_mask};
-ghost use Rattle.cj_cluster.specs.History.Histories.{is_free, log};
+ghost use Rattle.cj_cluster.specs.History.Histories.{is_enabled, is_free, log};
 ghost use Rattle.cj_cluster.specs.History.Legality.{IsFitEntry, IsLegal};
 ghost use Rattle.cj_place.specs.Layouts.{placement_of};
 ghost use Rattle.cj_board.specs.Counting.{event_count_of};
@@ -12,14 +12,14 @@ ghost use Rattle.cj_book.specs.Seated.{GivesOwnPassesOnly};
 ghost use Rattle.cj_tally.specs.Tallies.{IsTallyOf};
 ghost use Rattle.cj_locked.specs.Passes.{HasNotedMore, HasSeenMore};
 ghost use Rattle.cj_locked.specs.Taking.{NotesTally};
-ghost use Rattle.cj_locked.specs.Turns.{turn_events_of};
-ghost use Rattle.cj_locked.specs.Writing.{BeginsSince, EndsSince, HoldsEntry, RefusesSince, SettlesTally};
+ghost use Rattle.cj_locked.specs.Turns.{refusal_weight, turn_events_of};
+ghost use Rattle.cj_locked.specs.Writing.{BeginsSince, EndsSince, HoldsAppended, HoldsEntry, RefusesSince, SchedulesSince, SettlesTally};
 
 use crate::naming::{Naming, TurnLedger};
 use crate::pass::{NamedBoard, Pass};
 use crate::turn::Turn;
-use cj_book::{Book, BookError};
-use cj_log::LogItem;
+use cj_book::{BegunEntry, Book, BookError, Prepared};
+use cj_log::{LogError, LogItem};
 use cj_model::{Entry, Reply};
 use cj_outside::Store;
 use cj_tally::Tally;
@@ -56,6 +56,8 @@ impl<J: Naming, S: Store> Model for LockedBook<J, S> {
 pub struct Begun<J: Naming, S: Store> {
     /// The entry's item, which the log is to append.
     pub item: LogItem,
+    /// What the entry needs once its item stands in the log.
+    pub prepared: Prepared,
     pub turn: Turn<J, S>,
 }
 
@@ -66,6 +68,16 @@ pub struct OpenEntry<J: Naming, S: Store> {
     /// The mask of the backends that are enabled until the entry ends.
     pub enabled: u32,
     pub turn: Turn<J, S>,
+}
+
+/// What the event counts that comes with this answer, where one does.
+fn refusal_weight(error: BookError) -> u64
+    ensures { result ≡ refusal_weight error }
+{
+    match error {
+        BookError::LogFault => 3,
+        _ => 0,
+    }
 }
 
 /// The mask without the backends of another.
@@ -144,7 +156,7 @@ impl<J: Naming, S: Store + Drop> LockedBook<J, S> {
         requires own { ((pass_view pass.old.seat).own_session ≡ e.now.session) × (0 < e.now.session) }
         requires counted { event_count_of e.now.session (front pass.old.seat) ≡ (pass_view pass.old.seat).count }
         requires fit { IsFitEntry (log (front pass.old.seat)) e.now }
-        ensures ok { IfOk result (λ begun. BeginsSince S.tells S.faults (placement_of J.layout) (front pass.old.seat) (front pass.new.seat) e.now begun.turn.share.amount begun.turn.log begun.item) }
+        ensures ok { IfOk result (λ begun. BeginsSince S.tells S.faults (placement_of J.layout) (front pass.old.seat) (front pass.new.seat) e.now begun.prepared begun.turn.share.amount begun.turn.log begun.item) }
         ensures err { IfErr result (RefusesSince (placement_of J.layout) (front pass.old.seat) (front pass.new.seat) e.now) }
         ensures own { (pass_view pass.new.seat).own_session ≡ e.now.session }
         ensures counted { event_count_of e.now.session (front pass.new.seat) ≡ (pass_view pass.new.seat).count }
@@ -169,7 +181,7 @@ impl<J: Naming, S: Store + Drop> LockedBook<J, S> {
         requires own { ((pass_view pass.old.seat).own_session ≡ e.now.session) × (0 < e.now.session) }
         requires told { front pass.old.seat ≡ self.old.book.state.history }
         requires fit { IsFitEntry (log (front pass.old.seat)) e.now }
-        ensures ok { IfOk result (λ begun. BeginsSince S.tells S.faults (placement_of J.layout) (front pass.old.seat) (front pass.new.seat) e.now begun.turn.share.amount begun.turn.log begun.item) }
+        ensures ok { IfOk result (λ begun. BeginsSince S.tells S.faults (placement_of J.layout) (front pass.old.seat) (front pass.new.seat) e.now begun.prepared begun.turn.share.amount begun.turn.log begun.item) }
         ensures err { IfErr result (RefusesSince (placement_of J.layout) (front pass.old.seat) (front pass.new.seat) e.now) }
         ensures own { (pass_view pass.new.seat).own_session ≡ (pass_view pass.old.seat).own_session }
         ensures count { (pass_view pass.new.seat).count ≡ (pass_view pass.old.seat).count }
@@ -183,11 +195,94 @@ impl<J: Naming, S: Store + Drop> LockedBook<J, S> {
         };
         turn.audit(&mut self.ledger);
         match self.book.begin_own(&board.board, &mut pass.seat, e) {
-            Ok(item) => {
+            Ok(BegunEntry { item, prepared }) => {
                 turn.count(&mut self.ledger, 1);
-                Ok(Begun { item, turn })
+                Ok(Begun {
+                    item,
+                    prepared,
+                    turn,
+                })
             }
             Err(error) => {
+                self.turn = Some(turn);
+                Err(error)
+            }
+        }
+    }
+
+    /// Finishes what `begin` began, once the log was asked to append the item. The entry is open then, and its writer
+    /// has the turn until `end`. Where the log refused, the turn is there again. After a fault of the log's store the
+    /// pass has seen the event of that.
+    pub fn finish(
+        &mut self,
+        board: &NamedBoard<J>,
+        pass: &mut Pass<J>,
+        turn: Turn<J, S>,
+        e: Entry,
+        prepared: Prepared,
+        appended: Result<(), LogError>,
+    ) -> Result<OpenEntry<J, S>, BookError>
+        requires own { ((pass_view pass.old.seat).own_session ≡ e.session) × (0 < e.session) }
+        requires counted { event_count_of e.session (front pass.old.seat) ≡ (pass_view pass.old.seat).count }
+        requires holds { HoldsAppended S.tells S.faults (placement_of J.layout) (front pass.old.seat) e prepared turn.share.amount turn.log appended }
+        ensures ok { IfOk result (λ entry. HoldsEntry S.tells S.faults (placement_of J.layout) (front pass.new.seat) entry.number e entry.turn.share.amount entry.turn.log) }
+        ensures since { IfOk result (λ entry. SchedulesSince (placement_of J.layout) (front pass.old.seat) (front pass.new.seat) entry.number e) }
+        ensures enabled { IfOk result (λ entry. (b : ℕ) → in_mask entry.enabled b ≡ is_enabled (front pass.new.seat) b) }
+        ensures err { IfErr result (RefusesSince (placement_of J.layout) (front pass.old.seat) (front pass.new.seat) e) }
+        ensures own { (pass_view pass.new.seat).own_session ≡ e.session }
+        ensures counted { event_count_of e.session (front pass.new.seat) ≡ (pass_view pass.new.seat).count }
+        ensures legal { IsLegal (front pass.new.seat) }
+        ensures told { front pass.new.seat ≡ self.new.book.state.history }
+        ensures back { OnErr result (is_none self.new.log ≡ false) }
+    {
+        self.tell(board, pass);
+        board.check_count(pass);
+        self.finish_told(board, pass, turn, e, prepared, appended)
+    }
+
+    /// The same, with a pass that has seen the history.
+    fn finish_told(
+        &mut self,
+        board: &NamedBoard<J>,
+        pass: &mut Pass<J>,
+        mut turn: Turn<J, S>,
+        e: Entry,
+        prepared: Prepared,
+        appended: Result<(), LogError>,
+    ) -> Result<OpenEntry<J, S>, BookError>
+        requires own { ((pass_view pass.old.seat).own_session ≡ e.session) × (0 < e.session) }
+        requires counted { event_count_of e.session (front pass.old.seat) ≡ (pass_view pass.old.seat).count }
+        requires told { front pass.old.seat ≡ self.old.book.state.history }
+        requires holds { HoldsAppended S.tells S.faults (placement_of J.layout) (front pass.old.seat) e prepared turn.share.amount turn.log appended }
+        ensures ok { IfOk result (λ entry. HoldsEntry S.tells S.faults (placement_of J.layout) (front pass.new.seat) entry.number e entry.turn.share.amount entry.turn.log) }
+        ensures since { IfOk result (λ entry. SchedulesSince (placement_of J.layout) (front pass.old.seat) (front pass.new.seat) entry.number e) }
+        ensures enabled { IfOk result (λ entry. (b : ℕ) → in_mask entry.enabled b ≡ is_enabled (front pass.new.seat) b) }
+        ensures err { IfErr result (RefusesSince (placement_of J.layout) (front pass.old.seat) (front pass.new.seat) e) }
+        ensures own { (pass_view pass.new.seat).own_session ≡ e.session }
+        ensures counted { event_count_of e.session (front pass.new.seat) ≡ (pass_view pass.new.seat).count }
+        ensures legal { IsLegal (front pass.new.seat) }
+        ensures told { front pass.new.seat ≡ self.new.book.state.history }
+        ensures back { OnErr result (is_none self.new.log ≡ false) }
+    {
+        turn.audit(&mut self.ledger);
+        turn.uncount(&mut self.ledger, 1);
+        self.book.legal();
+        let finished = self
+            .book
+            .finish_own(&board.board, &mut pass.seat, e, prepared, appended);
+        self.book.legal();
+        match finished {
+            Ok(number) => {
+                turn.count(&mut self.ledger, 3);
+                let enabled = self.book.enabled();
+                Ok(OpenEntry {
+                    number,
+                    enabled,
+                    turn,
+                })
+            }
+            Err(error) => {
+                turn.count(&mut self.ledger, refusal_weight(error));
                 self.turn = Some(turn);
                 Err(error)
             }

@@ -1,6 +1,6 @@
 //! The turn: who has it alone may bring an event, but for a failure in a read.
 
-ghost use Rattle.std.specs.Prelude.{◌≡◌, ◌+◌, List, length, true, OnOk, IsErrOf};
+ghost use Rattle.std.specs.Prelude.{◌≡◌, ◌+◌, ◌≤◌, List, length, true, OnOk, IsErrOf};
 ghost use Rattle.cj_model.specs.declared.request.Entry.{Entry};
 ghost use Rattle.cj_cluster.specs.declared.event.Event.{Event};
 ghost use Rattle.cj_cluster.specs.History.Histories.{log};
@@ -73,5 +73,15 @@ impl<J: Naming, S: Store> Turn<J, S> {
         ensures log { self.new.log ≡ self.old.log }
     {
         ledger.add(&mut self.share, more);
+    }
+
+    /// Takes from the turn's amount.
+    pub(crate) fn uncount(&mut self, ledger: &mut Book<TurnLedger<J>>, less: u64)
+        requires { less ≤ self.old.share.amount }
+        ensures total { ledger.new.total + less ≡ ledger.old.total }
+        ensures amount { self.new.share.amount + less ≡ self.old.share.amount }
+        ensures log { self.new.log ≡ self.old.log }
+    {
+        ledger.sub(&mut self.share, less);
     }
 }

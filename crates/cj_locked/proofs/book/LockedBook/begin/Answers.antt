@@ -24,8 +24,8 @@ returns-clause-ok g c =
     let F = front c.args.pass.now.seat in
     let H = front c.check_count.new.pass.seat in
     let G = front c.begin_told.new.pass.seat in
-    ok_weaker (λ x. BeginsSince t n p H G c.args.e.now x.turn.share.amount x.turn.log x.item) (λ x. BeginsSince t n p F G c.args.e.now x.turn.share.amount x.turn.log x.item)
-    (λ x since. begun_earlier t n p F H G c.args.e.now x.turn.share.amount x.turn.log x.item k.2 k.0 since) c.begin_told.result c.begin_told.ensures.ok
+    ok_weaker (λ x. BeginsSince t n p H G c.args.e.now x.prepared x.turn.share.amount x.turn.log x.item) (λ x. BeginsSince t n p F G c.args.e.now x.prepared x.turn.share.amount x.turn.log x.item)
+    (λ x since. begun_earlier t n p F H G c.args.e.now x.prepared x.turn.share.amount x.turn.log x.item k.2 k.0 since) c.begin_told.result c.begin_told.ensures.ok
 
 pub returns-clause-err : goal.returns-clause-err
 returns-clause-err g c =
