@@ -13,6 +13,8 @@ use Rattle.cj_cluster.proofs.Pushed.{free-same, prefix_self, prefix_trans}
 use Rattle.cj_board.specs.Counting.{event_count_of}
 use Rattle.cj_log.specs.declared.error.LogError.{LogError}
 use Rattle.cj_log.specs.declared.error.LogError.TheVariants as log_errors
+use Rattle.cj_log.specs.declared.item.LogItem.{LogItem}
+use Rattle.cj_recovery.specs.Openings.{entry_item}
 use Rattle.cj_book.specs.BookLogs.{BookLogState, LogFollows}
 use Rattle.cj_book.specs.Books.{BookState, IsPrepared}
 use Rattle.cj_book.specs.Events.{entry_finished, finished_as}
@@ -25,7 +27,7 @@ use Rattle.cj_book.specs.declared.pending.Prepared.{Prepared}
 use Rattle.cj_book.proofs.Owned.{entry_counts, failure_counts}
 use Rattle.cj_locked.specs.Locked.{IsVacant}
 use Rattle.cj_locked.specs.Turns.{refusal_weight, turn_amount, turn_events_of}
-use Rattle.cj_locked.specs.Writing.{FollowsAppend, HoldsAppended, HoldsEntry, HoldsPending, IsScheduledIn, RefusesAt, RefusesSince, SchedulesSince}
+use Rattle.cj_locked.specs.Writing.{BeginsSince, FollowsAppend, HoldsAppended, HoldsEntry, HoldsPending, IsScheduledIn, RefusesAt, RefusesSince, SchedulesSince}
 use Rattle.cj_locked.proofs.Ending.{same_amount}
 use Rattle.cj_locked.proofs.Following.{follows_reads}
 use Rattle.cj_locked.proofs.Turns.{free_stays, turn_events_push, turn_stays, TurnStays}
@@ -107,6 +109,25 @@ appended_on tells count p F H e prepared amount l a longer holds = record {
   before = holds.before;
   holds = pending_on tells count p F H e prepared amount holds.before longer holds.holds;
   follows = holds.follows;
+}
+
+-- the log was asked to append the item of the entry that was begun
+pub appended_now : {S : Type 0} (tells : Bool) (count : S → ℕ) (p : Placement) (F G : List Event) (e : Entry) (prepared : Prepared) (amount : ℕ) (l : BookLogState S) (item : LogItem) → BeginsSince tells count p F G e prepared amount l item → (now : ℕ) → now ≡ amount → (k : BookLogState S) (a : Result Unit LogError)
+    → ((h : List Event) → LogFollows tells count l h → item ≡ entry_item (length (log h) + 1) e → FollowsAppend tells count k h e a) → HoldsAppended tells count p G e prepared now k a
+appended_now tells count p F G e prepared amount l item begins now same k a appends = record {
+  before = l;
+  holds = record {
+    m = begins.holds.m;
+    was_free = begins.holds.was_free;
+    served = begins.holds.served;
+    space = begins.holds.space;
+    fit = begins.holds.fit;
+    its = begins.holds.its;
+    seen = begins.holds.seen;
+    turn = same ∙ begins.holds.turn;
+    follows = begins.holds.follows;
+  };
+  follows = λ h follows entries. appends h follows (begins.its.0 ∙ ap (λ n. entry_item (n + 1) e) (sym entries));
 }
 
 pub scheduled_earlier : (p : Placement) (F H G : List Event) (n : ℕ) (e : Entry) → IsPrefix F H → event_count_of e.session H ≡ event_count_of e.session F → SchedulesSince p H G n e → SchedulesSince p F G n e
