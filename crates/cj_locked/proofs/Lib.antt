@@ -1,4 +1,5 @@
 pub mod Beginning
+pub mod Changing
 pub mod Ending
 pub mod Finishing
 pub mod Following

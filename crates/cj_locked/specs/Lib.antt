@@ -1,3 +1,4 @@
+pub mod Changes
 pub mod Locked
 pub mod Named
 pub mod Passes

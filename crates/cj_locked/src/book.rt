@@ -1,6 +1,6 @@
 //! The book behind its lock.
 
-ghost use Rattle.std.specs.Prelude.{◌≡◌, ◌-◌, ◌<◌, IfOk, IfErr, OnErr, ◌&&◌, not, ℕ, Bool, true, false, length, None, Some, IsNone, is_none};
+ghost use Rattle.std.specs.Prelude.{◌≡◌, ◌-◌, ◌<◌, IfOk, IfErr, OnErr, ◌&&◌, not, ℕ, Bool, true, false, length, None, Some, IsNone, is_none, Contains};
 ghost use Rattle.cj_model.specs.Cluster.Masks.{in_mask};
 ghost use Rattle.cj_cluster.specs.History.Histories.{is_enabled, is_free, log};
 ghost use Rattle.cj_cluster.specs.History.Legality.{IsFitEntry, IsLegal};
@@ -29,9 +29,9 @@ use std::sync::ledger;
 /// The book of the board and the layout that `J` names, with the turn where nobody has it.
 #[derive(Drop)]
 pub struct LockedBook<J: Naming, S: Store> {
-    book: Book,
-    ledger: ledger::Book<TurnLedger<J>>,
-    turn: Option<Turn<J, S>>,
+    pub(crate) book: Book,
+    pub(crate) ledger: ledger::Book<TurnLedger<J>>,
+    pub(crate) turn: Option<Turn<J, S>>,
     of: PhantomData<J>,
 }
 
@@ -138,6 +138,7 @@ impl<J: Naming, S: Store + Drop> LockedBook<J, S> {
         ensures told { front pass.new.seat ≡ self.old.book.state.history }
         ensures legal { IsLegal (front pass.new.seat) }
         ensures state { self.new.book.state ≡ self.old.book.state }
+        ensures heard { (note : ℕ × ℕ) → Contains (pass_view pass.old.seat).position_notes note → Contains self.new.book.view.position_notes note }
         ensures log { self.new.log ≡ self.old.log }
     {
         self.book.legal();
