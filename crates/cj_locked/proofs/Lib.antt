@@ -1,0 +1,10 @@
+pub mod Beginning
+pub mod Changing
+pub mod Ending
+pub mod Finishing
+pub mod Following
+pub mod Passes
+pub mod Taking
+pub mod Tallying
+pub mod Turns
+pub mod Writing

@@ -1,0 +1,6 @@
+use Rattle.cj_board.specs.Seats.{pass_view}
+use Rattle.cj_locked.proofs.Passes.{noted_then}
+use Rattle.cj_locked.proofs.book.LockedBook.disable.Goals as goal
+
+pub returns-clause-more : goal.returns-clause-more
+returns-clause-more g c = noted_then (pass_view c.args.pass.now.seat) (pass_view c.tell.new.pass.seat) (pass_view c.tell-2.new.pass.seat) c.tell.ensures.more c.tell-2.ensures.more

@@ -1,0 +1,108 @@
+//! A cell behind its lock.
+
+ghost use Rattle.std.specs.Prelude.{◌≡◌, ◌-◌, ◌<◌, Some, slice_get};
+ghost use Rattle.cj_model.specs.declared.limits.TheConstants.{BACKEND_LIMIT};
+ghost use Rattle.cj_cluster.specs.History.Histories.{log};
+ghost use Rattle.cj_cluster.specs.History.Legality.{IsLegal};
+ghost use Rattle.cj_board.specs.Seats.{front, pass_view};
+ghost use Rattle.cj_place.specs.Layouts.{placement_of};
+ghost use Rattle.cj_locked.specs.Passes.{HasNotedMore};
+ghost use Rattle.cj_locked.specs.Taking.{report_of, ReportsEntry};
+
+use crate::naming::Naming;
+use crate::pass::{NamedBoard, Pass};
+use cj_backend::Backend;
+use cj_cluster::Did;
+use cj_model::{Entry, Text};
+use cj_replica::{Caught, Cell, CellError};
+use std::marker::PhantomData;
+
+/// A cell of the board and the layout that `J` names.
+#[derive(Drop)]
+pub struct LockedCell<J: Naming, B: Backend> {
+    cell: Cell<B>,
+    of: PhantomData<J>,
+    ghost on: { cell.board ≡ J.board },
+    ghost placed: { cell.state.placement ≡ placement_of J.layout },
+}
+
+/// What a cell's answer is as a report.
+fn report_of(caught: &Result<Caught, CellError>) -> Did
+    ensures { result ≡ report_of caught.now }
+{
+    match caught {
+        Ok(Caught::Skipped) => Did::Skipped,
+        Ok(Caught::Did(outcome)) => Did::Done(*outcome),
+        Err(CellError::Failed) => Did::Failed,
+        Err(CellError::Starved) => Did::Starved,
+    }
+}
+
+impl<J: Naming, B: Backend> LockedCell<J, B> {
+    /// Takes the cell, which is of the board and the layout that are named.
+    pub fn new(cell: Cell<B>) -> LockedCell<J, B>
+        requires board { cell.board ≡ J.board }
+        requires placement { cell.state.placement ≡ placement_of J.layout }
+        ensures { result.cell ≡ cell }
+    {
+        LockedCell {
+            cell,
+            of: PhantomData,
+        }
+    }
+
+    /// Has the backend carry out or skip entry `n`, under this login, and says which backend it is and what it did.
+    /// The pass has seen the entry, and has noted the rest then.
+    ///
+    /// A cell that stands elsewhere than before the entry reports that it ran out of memory. None that is enabled
+    /// does.
+    pub fn take(
+        &mut self,
+        board: &NamedBoard<J>,
+        pass: &mut Pass<J>,
+        n: u64,
+        e: &Entry,
+        login: &Text,
+    ) -> (u8, Did)
+        requires number { 0 < n }
+        requires entry { slice_get (log (front pass.old.seat)) (n - 1) ≡ Some e.now }
+        ensures more { HasNotedMore (pass_view pass.old.seat) (pass_view pass.new.seat) }
+        ensures legal { IsLegal (front pass.new.seat) }
+        ensures backend { result.0 < BACKEND_LIMIT }
+        ensures reports { ReportsEntry B.tells (placement_of J.layout) n e.now (pass_view pass.new.seat) result.0 result.1 }
+    {
+        let b = self.cell.number();
+        self.cell.brief(&board.board, &mut pass.seat);
+        match self.cell.position() {
+            Some(position) if position == n - 1 => {
+                let did = self.take_next(board, pass, n, e, login);
+                (b, did)
+            }
+            _ => {
+                self.cell.report(&board.board, &mut pass.seat);
+                (b, Did::Starved)
+            }
+        }
+    }
+
+    /// The same for a cell that has been told of the entry, and stands before it.
+    fn take_next(
+        &mut self,
+        board: &NamedBoard<J>,
+        pass: &mut Pass<J>,
+        n: u64,
+        e: &Entry,
+        login: &Text,
+    ) -> Did
+        requires number { 0 < n }
+        requires stands { self.old.cell.state.position ≡ Some (n - 1) }
+        requires entry { slice_get (log self.old.cell.view.front) (n - 1) ≡ Some e.now }
+        ensures more { HasNotedMore (pass_view pass.old.seat) (pass_view pass.new.seat) }
+        ensures legal { IsLegal (front pass.new.seat) }
+        ensures reports { ReportsEntry B.tells (placement_of J.layout) n e.now (pass_view pass.new.seat) self.old.cell.state.b result }
+    {
+        let caught = self.cell.catch_up(&board.board, n, e, login);
+        self.cell.report(&board.board, &mut pass.seat);
+        report_of(&caught)
+    }
+}

@@ -1,0 +1,24 @@
+//! What stands behind each lock of a cluster that threads share, and what they carry from lock to lock.
+//!
+//! Each call is a `&mut self` method with its whole clause, and this crate knows of no thread: a driver locks, makes
+//! one call, and has its clause without what is about `self`. A `Pass` carries on what was seen (`cj_board`).
+//! The `Turn` is a token: only who has it brings events into the history, but for failures in reads. With it goes the
+//! recovery log, so that an append holds no lock. `J` names board, layout and the turn's ledger in all types.
+//! Promised: a write is a turn of its session (`WritesTurn`), from `begin`, `finish` and `end` by `proofs/Writing`.
+//! To change: a call at a cell goes into `cell.rt`, at the book into `book.rt` for an entry, else into `change.rt`.
+//! Clauses are about passes. Proofs begin in `proofs/Turns` (what stays with the turn).
+//! To read: `specs/Turns`, `specs/Passes`, `specs/Writing`, `specs/Changes`.
+#![tactic(auto)]
+
+mod book;
+mod cell;
+mod change;
+mod naming;
+mod pass;
+mod turn;
+
+pub use book::{Begun, LockedBook, OpenEntry};
+pub use cell::LockedCell;
+pub use naming::{Naming, TurnLedger};
+pub use pass::{NamedBoard, Pass};
+pub use turn::Turn;

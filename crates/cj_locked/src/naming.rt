@@ -1,0 +1,39 @@
+//! What tells one cluster from another, for all that stands behind its locks.
+
+use std::marker::{Brand, PhantomData};
+use std::sync::ledger::Ledger;
+
+/// Names one board, the layout of its cluster, and the ledger of its turn.
+/// A program picks the three at one generic call, after the board was made.
+pub trait Naming {
+    ghost use Rattle.std.specs.Prelude.{ℕ};
+    ghost use Rattle.atomic_table.specs.Seated.{TableId};
+    ghost use Rattle.cj_place.specs.Layouts.{Layout};
+
+    ghost board: { TableId };
+
+    ghost layout: { Layout };
+
+    ghost turn: { ℕ };
+}
+
+impl Naming for Brand {
+    ghost use Rattle.cj_locked.specs.Named.{no_board, no_layout};
+
+    ghost board = { no_board };
+
+    ghost layout = { no_layout };
+
+    ghost turn = { 0 };
+}
+
+/// The ledger of the turn. It has one part, so whoever has the turn has the whole.
+pub struct TurnLedger<J: Naming> {
+    of: PhantomData<J>,
+}
+
+impl<J: Naming> Ledger for TurnLedger<J> {
+    ghost name = { J.turn };
+
+    ghost parts = { 1 };
+}

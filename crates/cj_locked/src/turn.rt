@@ -1,0 +1,87 @@
+//! The turn: who has it alone may bring an event, but for a failure in a read.
+
+ghost use Rattle.std.specs.Prelude.{◌≡◌, ◌+◌, ◌≤◌, List, length, true, OnOk, IsErrOf};
+ghost use Rattle.cj_model.specs.declared.request.Entry.{Entry};
+ghost use Rattle.cj_cluster.specs.declared.event.Event.{Event};
+ghost use Rattle.cj_cluster.specs.History.Histories.{log};
+ghost use Rattle.cj_outside.specs.Causes.{CountsFault};
+ghost use Rattle.cj_outside.specs.Stores.{LeavesOnly};
+ghost use Rattle.cj_log.specs.Items.{CanAppend};
+ghost use Rattle.cj_log.specs.Logs.{Adds, IsBeforeOrAfter, LeavesItems, Refuses};
+ghost use Rattle.cj_recovery.specs.Openings as openings;
+ghost use Rattle.cj_book.specs.BookLogs.{LogFollows};
+ghost use Rattle.cj_locked.specs.Writing.{FollowsAppend};
+
+use crate::naming::{Naming, TurnLedger};
+use cj_book::BookLog;
+use cj_log::{LogError, LogItem};
+use cj_outside::Store;
+use std::sync::ledger::{Book, Share};
+
+/// The turn, of which there is one. Who has it has the recovery log too, so an append to that needs no lock.
+///
+/// Its amount tells which events came that need the turn (`turn_amount`). So whoever has it knows that none came
+/// meanwhile: the open entry is still open, and the same backends are enabled.
+#[derive(Drop)]
+pub struct Turn<J: Naming, S: Store> {
+    pub(crate) share: Share<TurnLedger<J>>,
+    pub(crate) log: BookLog<S>,
+    ghost whole: { share.parts ≡ 1 },
+}
+
+impl<J: Naming, S: Store> Turn<J, S> {
+    /// Makes the turn of the ledger's one part and the log.
+    pub fn new(share: Share<TurnLedger<J>>, log: BookLog<S>) -> Turn<J, S>
+        requires { share.parts ≡ 1 }
+        ensures { (result.share ≡ share) × (result.log ≡ log) }
+    {
+        Turn { share, log }
+    }
+
+    /// Appends the item of an entry or a marker that was begun to the log, which needs no lock. An error leaves the
+    /// items as they were.
+    ///
+    /// `NoMemory` comes only before the gate of the item is opened. After `Failed` a stop may leave the refused
+    /// item too.
+    pub fn append(&mut self, item: LogItem) -> Result<(), LogError>
+        requires { CanAppend item }
+        ensures amount { self.new.share.amount ≡ self.old.share.amount }
+        ensures items { S.tells ≡ true → Adds self.old.log.log.items item self.new.log.log.items result }
+        ensures cause { CountsFault (IsErrOf result LogError.Failed) (S.faults self.old.log.log.store) (S.faults self.new.log.log.store) }
+        ensures any_moment { S.tells ≡ true → LeavesOnly S.moment S.since self.old.log.log.store self.new.log.log.store (IsBeforeOrAfter self.old.log.log item) }
+        ensures refused { S.tells ≡ true → Refuses self.old.log.log item self.new.log.log result }
+        ensures safe { S.tells ≡ true → OnOk result (LeavesItems (S.may self.new.log.log.store) self.new.log.log.items) }
+        ensures follows { (h : List Event) (e : Entry) → LogFollows S.tells S.faults self.old.log h → item ≡ openings.entry_item (length (log h) + 1) e → FollowsAppend S.tells S.faults self.new.log h e result }
+    {
+        self.log.append(item)
+    }
+
+    /// Shows that the ledger's total is the turn's amount.
+    pub(crate) fn audit(&mut self, ledger: &mut Book<TurnLedger<J>>)
+        ensures total { ledger.new.total ≡ ledger.old.total }
+        ensures amount { self.new.share.amount ≡ self.old.share.amount }
+        ensures whole { self.old.share.amount ≡ ledger.old.total }
+        ensures log { self.new.log ≡ self.old.log }
+    {
+        ledger.audit(&mut self.share);
+    }
+
+    /// Adds to the turn's amount.
+    pub(crate) fn count(&mut self, ledger: &mut Book<TurnLedger<J>>, more: u64)
+        ensures total { ledger.new.total ≡ ledger.old.total + more }
+        ensures amount { self.new.share.amount ≡ self.old.share.amount + more }
+        ensures log { self.new.log ≡ self.old.log }
+    {
+        ledger.add(&mut self.share, more);
+    }
+
+    /// Takes from the turn's amount.
+    pub(crate) fn uncount(&mut self, ledger: &mut Book<TurnLedger<J>>, less: u64)
+        requires { less ≤ self.old.share.amount }
+        ensures total { ledger.new.total + less ≡ ledger.old.total }
+        ensures amount { self.new.share.amount + less ≡ self.old.share.amount }
+        ensures log { self.new.log ≡ self.old.log }
+    {
+        ledger.sub(&mut self.share, less);
+    }
+}
