@@ -5,8 +5,8 @@
 //! The `Turn` is a token: only who has it brings events into the history, but for failures in reads. With it goes the
 //! recovery log, so that an append holds no lock. `J` names board, layout and the turn's ledger in all types.
 //! Promised: a write is a turn of its session (`WritesTurn`), from `begin`, `finish` and `end` by `proofs/Writing`.
-//! To change: a call at a cell goes into `cell.rt`, at the book into `book.rt` for an entry, else into `change.rt`.
-//! Clauses are about passes. Proofs begin in `proofs/Turns` (what stays with the turn).
+//! To change: a call at a cell goes into `cell.rt`. One at the book goes into `book.rt` (entries), `session.rt`
+//! (sessions) or `change.rt`. Clauses are about passes. Proofs begin in `proofs/Turns` (what stays with the turn).
 //! To read: `specs/Turns`, `specs/Passes`, `specs/Writing`, `specs/Changes`.
 #![tactic(auto)]
 
@@ -15,6 +15,7 @@ mod cell;
 mod change;
 mod naming;
 mod pass;
+mod session;
 mod turn;
 
 pub use book::{Begun, LockedBook, OpenEntry};
