@@ -5,6 +5,7 @@ pub mod Finishing
 pub mod Following
 pub mod Opening
 pub mod Passes
+pub mod Reading
 pub mod Taking
 pub mod Tallying
 pub mod Turns

@@ -7,7 +7,7 @@
 //! Promised: a write is a turn of its session (`WritesTurn`), from `begin`, `finish` and `end` by `proofs/Writing`.
 //! To change: a call at a cell goes into `cell.rt`. One at the book goes into `book.rt` (entries), `session.rt`
 //! (sessions) or `change.rt`. Clauses are about passes. Proofs begin in `proofs/Turns` (what stays with the turn).
-//! To read: `specs/Turns`, `specs/Passes`, `specs/Writing`, `specs/Changes`.
+//! To read: `specs/Turns`, `specs/Passes`, `specs/Writing`, `specs/Reading`, `specs/Changes`.
 #![tactic(auto)]
 
 mod book;
