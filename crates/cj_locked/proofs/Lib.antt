@@ -3,6 +3,7 @@ pub mod Changing
 pub mod Ending
 pub mod Finishing
 pub mod Following
+pub mod Marking
 pub mod Opening
 pub mod Passes
 pub mod Reading

@@ -1,5 +1,6 @@
 pub mod Changes
 pub mod Locked
+pub mod Marking
 pub mod Named
 pub mod Passes
 pub mod Reading
