@@ -3,7 +3,10 @@ pub mod Changing
 pub mod Ending
 pub mod Finishing
 pub mod Following
+pub mod Marking
+pub mod Opening
 pub mod Passes
+pub mod Reading
 pub mod Taking
 pub mod Tallying
 pub mod Turns

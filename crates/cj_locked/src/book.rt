@@ -71,7 +71,7 @@ pub struct OpenEntry<J: Naming, S: Store> {
 }
 
 /// What the event counts that comes with this answer, where one does.
-fn refusal_weight(error: BookError) -> u64
+pub(crate) fn refusal_weight(error: BookError) -> u64
     ensures { result ≡ refusal_weight error }
 {
     match error {

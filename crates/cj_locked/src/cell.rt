@@ -1,20 +1,23 @@
 //! A cell behind its lock.
 
 ghost use Rattle.std.specs.Prelude.{◌≡◌, ◌-◌, ◌<◌, Some, slice_get};
+ghost use Rattle.cj_model.specs.declared.request.Request.TheVariants as request;
+ghost use Rattle.cj_model.specs.Sql.WrittenRequests.{IsWritten};
 ghost use Rattle.cj_model.specs.declared.limits.TheConstants.{BACKEND_LIMIT};
 ghost use Rattle.cj_cluster.specs.History.Histories.{log};
 ghost use Rattle.cj_cluster.specs.History.Legality.{IsLegal};
 ghost use Rattle.cj_board.specs.Seats.{front, pass_view};
 ghost use Rattle.cj_place.specs.Layouts.{placement_of};
 ghost use Rattle.cj_locked.specs.Passes.{HasNotedMore};
+ghost use Rattle.cj_locked.specs.Reading.{IsReadAnswer};
 ghost use Rattle.cj_locked.specs.Taking.{report_of, ReportsEntry};
 
 use crate::naming::Naming;
 use crate::pass::{NamedBoard, Pass};
 use cj_backend::Backend;
 use cj_cluster::Did;
-use cj_model::{Entry, Text};
-use cj_replica::{Caught, Cell, CellError};
+use cj_model::{Asked, Entry, Select, Text};
+use cj_replica::{Caught, Cell, CellError, CellReadError};
 use std::marker::PhantomData;
 
 /// A cell of the board and the layout that `J` names.
@@ -104,5 +107,32 @@ impl<J: Naming, B: Backend> LockedCell<J, B> {
         let caught = self.cell.catch_up(&board.board, n, e, login);
         self.cell.report(&board.board, &mut pass.seat);
         report_of(&caught)
+    }
+
+    /// Answers a query of transaction `tx`, 0 for none, at a position not below `least`, if it is the cell of backend
+    /// `b`. The cell of another answers `Out`, in a branch that never runs. The pass has heard of it then.
+    pub fn read(
+        &mut self,
+        board: &NamedBoard<J>,
+        pass: &mut Pass<J>,
+        b: u8,
+        login: &Text,
+        tx: u64,
+        select: &Select,
+        least: u64,
+    ) -> Result<(Asked, u64), CellReadError>
+        requires written { IsWritten (request.Select select.now) }
+        ensures more { HasNotedMore (pass_view pass.old.seat) (pass_view pass.new.seat) }
+        ensures legal { IsLegal (front pass.new.seat) }
+        ensures answer { IsReadAnswer B.tells (placement_of J.layout) b tx select.now least (pass_view pass.new.seat) result }
+    {
+        if self.cell.number() != b {
+            self.cell.report(&board.board, &mut pass.seat);
+            return Err(CellReadError::Out);
+        }
+        self.cell.legal();
+        let answer = self.cell.read(&board.board, login, tx, select, least);
+        self.cell.report(&board.board, &mut pass.seat);
+        answer
     }
 }

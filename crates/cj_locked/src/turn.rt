@@ -1,6 +1,6 @@
 //! The turn: who has it alone may bring an event, but for a failure in a read.
 
-ghost use Rattle.std.specs.Prelude.{◌≡◌, ◌+◌, ◌≤◌, List, length, true, OnOk, IsErrOf};
+ghost use Rattle.std.specs.Prelude.{◌≡◌, ◌+◌, ◌≤◌, ℕ, Option, List, length, true, OnOk, IsErrOf};
 ghost use Rattle.cj_model.specs.declared.request.Entry.{Entry};
 ghost use Rattle.cj_cluster.specs.declared.event.Event.{Event};
 ghost use Rattle.cj_cluster.specs.History.Histories.{log};
@@ -10,6 +10,7 @@ ghost use Rattle.cj_log.specs.Items.{CanAppend};
 ghost use Rattle.cj_log.specs.Logs.{Adds, IsBeforeOrAfter, LeavesItems, Refuses};
 ghost use Rattle.cj_recovery.specs.Openings as openings;
 ghost use Rattle.cj_book.specs.BookLogs.{LogFollows};
+ghost use Rattle.cj_locked.specs.Marking.{FollowsMarker};
 ghost use Rattle.cj_locked.specs.Writing.{FollowsAppend};
 
 use crate::naming::{Naming, TurnLedger};
@@ -52,6 +53,7 @@ impl<J: Naming, S: Store> Turn<J, S> {
         ensures refused { S.tells ≡ true → Refuses self.old.log.log item self.new.log.log result }
         ensures safe { S.tells ≡ true → OnOk result (LeavesItems (S.may self.new.log.log.store) self.new.log.log.items) }
         ensures follows { (h : List Event) (e : Entry) → LogFollows S.tells S.faults self.old.log h → item ≡ openings.entry_item (length (log h) + 1) e → FollowsAppend S.tells S.faults self.new.log h e result }
+        ensures follows_marker { (h : List Event) (name : List ℕ) (b : Option ℕ) → LogFollows S.tells S.faults self.old.log h → item ≡ openings.marker_item (length (log h)) name b → FollowsMarker S.tells S.faults self.new.log h name b result }
     {
         self.log.append(item)
     }
