@@ -1,4 +1,4 @@
--- A change in which one of two backends fails, for the test alone.
+-- A change in which one of two backends fails, and the first entry of a log, for tests alone.
 use Rattle.std.proofs.Common.{◌≡◌, ◌+◌, ◌<◌, ◌≤◌, ℕ, true, false, List, [], ◌∷◌, ◌++◌, length, inl, refl, codes, sym, ap, ◌∙◌, subst, arith, length-append, ⊎_elim}
 use Rattle.std.specs.Prelude.{Contains}
 use Rattle.std.proofs.lemmas.Bool.{both_ways, cases_eq, ne_eqb}

@@ -1,2 +1,3 @@
 pub mod BoardRows
+pub mod OwnPasses
 pub mod StarvedDesks

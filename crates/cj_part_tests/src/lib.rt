@@ -4,7 +4,8 @@
 //! no program makes.
 //! To change: a part that gets a new case gets it in its file. What a list of cases can say belongs to `cjc_cases`,
 //! and what needs generated inputs to `cj_run_tests`.
-//! `specs/` and `proofs/` serve the tests `board` (`proofs/BoardRows`) and `sessions` (`proofs/StarvedTurns`).
+//! `specs/` and `proofs/` serve the tests `board` (`proofs/BoardRows`), `sessions` (`proofs/StarvedTurns`) and
+//! `own_passes` (`specs/OwnPasses`; its entry is that of `proofs/BoardRows`).
 #![tactic(auto)]
 
 #[cfg(test)]
@@ -19,6 +20,8 @@ mod expressions;
 mod given;
 #[cfg(test)]
 mod kept_answers;
+#[cfg(test)]
+mod own_passes;
 #[cfg(test)]
 mod placements;
 #[cfg(test)]
