@@ -12,7 +12,7 @@
 mod keys;
 mod row_edit;
 mod row_map;
-mod row_test;
+mod row_predicate;
 mod scan;
 mod scan_back;
 mod stored;
@@ -22,7 +22,7 @@ mod view;
 pub use keys::{key_in, key_of};
 pub use row_edit::RowEdit;
 pub use row_map::RowMap;
-pub use row_test::RowTest;
+pub use row_predicate::RowTest;
 pub use scan::Scan;
 pub use scan_back::ScanBack;
 pub use stored::StoredTable;

@@ -10,7 +10,7 @@ ghost use Rattle.cj_rowstore.specs.Layers.{changed, kept, merged};
 ghost use Rattle.cj_rowstore.specs.RowEntries as entries;
 
 use crate::row_edit::RowEdit;
-use crate::row_test::RowTest;
+use crate::row_predicate::RowTest;
 use crate::scan::{Entries, Scan};
 use crate::scan_back::ScanBack;
 use crate::stored_row::StoredRow;

@@ -12,7 +12,7 @@ ghost use Rattle.cj_rowstore.specs.Stored.{IsChangeOf, KeepsKeys, changed_slot, 
 
 use crate::row_edit::RowEdit;
 use crate::row_map::RowMap;
-use crate::row_test::RowTest;
+use crate::row_predicate::RowTest;
 use crate::scan::Scan;
 use crate::scan_back::ScanBack;
 use cj_model::{NoMemory, Schema, Value};

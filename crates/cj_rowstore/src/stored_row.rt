@@ -4,7 +4,7 @@ ghost use Rattle.std.specs.Prelude.{◌≡◌, false, Some, is_some, option_copi
 ghost use Rattle.cj_rowstore.specs.StoredRows.{row_held};
 
 use crate::row_edit::RowEdit;
-use crate::row_test::RowTest;
+use crate::row_predicate::RowTest;
 use cj_model::{Row, Value};
 use std::marker::Model;
 
