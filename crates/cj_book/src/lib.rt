@@ -33,3 +33,4 @@ pub use book_log::BookLog;
 pub use counter::Counter;
 pub use error::{BookError, OwnError, SessionsFull, StartError};
 pub use pending::{BegunEntry, Pending, Prepared};
+pub use cj_cache::SharedAnswer;
