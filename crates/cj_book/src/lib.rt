@@ -30,7 +30,7 @@ mod transactions;
 
 pub use book::{Book, BookParts};
 pub use book_log::BookLog;
+pub use cj_cache::SharedAnswer;
 pub use counter::Counter;
 pub use error::{BookError, OwnError, SessionsFull, StartError};
 pub use pending::{BegunEntry, Pending, Prepared};
-pub use cj_cache::SharedAnswer;

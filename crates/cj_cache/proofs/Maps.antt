@@ -43,6 +43,13 @@ answer_shown s es = ap (option_map (λ (h : Held). h.answer.value)) (value_of_en
     each None = refl
     each (Some p) = refl
 
+pub share_shown : (s : Select) (es : Pairs) → option_map (λ (h : Held). (h.answer.value, h.at)) (lookup (same_statement s) es) ≡ option_map (λ (e : Cached). (e.answer, e.at)) (cached_entry s (map cached es))
+share_shown s es = ap (option_map (λ (h : Held). (h.answer.value, h.at))) (value_of_entry s es) ∙ each (lookup_entry (same_statement s) es) ∙ ap (option_map (λ (e : Cached). (e.answer, e.at))) (sym (entry_shown s es))
+  where
+    each : (o : Option (Select × Held)) → option_map (λ (h : Held). (h.answer.value, h.at)) (option_map (λ (p : Select × Held). p.1) o) ≡ option_map (λ (e : Cached). (e.answer, e.at)) (option_map cached o)
+    each None = refl
+    each (Some p) = refl
+
 pub some_shown : (s : Select) (es : Pairs) → is_some (lookup (same_statement s) es) ≡ is_some (cached_entry s (map cached es))
 some_shown s es = ap is_some (value_of_entry s es) ∙ each (lookup_entry (same_statement s) es) ∙ ap is_some (sym (entry_shown s es))
   where

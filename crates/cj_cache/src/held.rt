@@ -7,7 +7,7 @@ ghost use Rattle.std.specs.List.{list_any};
 ghost use Rattle.std.specs.Str.{bytes_eq};
 ghost use Rattle.cj_model.specs.Cluster.Caching.{brought_to_front, cached_entry, without};
 ghost use Rattle.cj_model.specs.Cluster.Caching as caching;
-ghost use Rattle.cj_cache.specs.Kept.{entries_of_map, without_each};
+ghost use Rattle.cj_cache.specs.Kept.{cached, entries_of_map, without_each};
 ghost use Rattle.cj_cache.specs.Proving.ByTable.{AreListed, listed};
 
 use crate::by_table::{self, ByTable};
@@ -45,6 +45,7 @@ pub fn answer_of<'a>(held: &'a LruCache<Select, Held>, select: &Select) -> Optio
 }
 
 /// A share of the answer of a statement; `None` if the map has none. Fails only where the share can't be counted.
+#[tactic(auto, using(crate::proofs::Maps::share_shown))]
 pub fn share_of(
     held: &LruCache<Select, Held>,
     select: &Select,
@@ -90,7 +91,25 @@ fn unlist_unkept(held: &LruCache<Select, Held>, by_table: &mut ByTable, select: 
     }
 }
 
-/// Puts an entry in front, in place of the one of its statement or of the last of a full cache.
+/// Puts a statement and what is held of it in front, in place of the one of its statement or of the last of a full
+/// cache. Answers the statement of the entry that went. Out of memory leaves the map, and gives the new statement back.
+fn push_held(
+    held: &mut LruCache<Select, Held>,
+    select: Select,
+    kept: Held,
+) -> Result<Option<Select>, Select>
+    ensures ok { OnOk result (entries_of_map held.new ≡ take held.old.cap (cached (select, kept) ∷ without select (entries_of_map held.old))) }
+    ensures err { OnErr result (held.new ≡ held.old) }
+    ensures capacity { held.new.cap ≡ held.old.cap }
+{
+    let _len = held.len();
+    match held.push(select, kept) {
+        Ok(gone) => Ok(gone.map(|(select, _)| select)),
+        Err(refused) => Err(refused.value.0),
+    }
+}
+
+/// Puts an entry in front, and makes its answer one that can be shared.
 /// Answers the statement of the entry that went. Out of memory leaves the map, and gives the new statement back.
 fn push_front(
     alloc: Global,
@@ -101,15 +120,11 @@ fn push_front(
     ensures err { OnErr result (held.new ≡ held.old) }
     ensures capacity { held.new.cap ≡ held.old.cap }
 {
-    let _len = held.len();
     let Cached { select, answer, at } = entry;
     let Ok(answer) = Arc::new(alloc, answer) else {
         return Err(select);
     };
-    match held.push(select, Held { answer, at }) {
-        Ok(gone) => Ok(gone.map(|(select, _)| select)),
-        Err(refused) => Err(refused.value.0),
-    }
+    push_held(held, select, Held { answer, at })
 }
 
 /// Puts an entry in front, in place of the one of its statement or of the last of a full cache.
