@@ -29,6 +29,7 @@ mod touching;
 
 pub use book::{Book, BookParts};
 pub use book_log::BookLog;
+pub use cj_cache::SharedAnswer;
 pub use counter::Counter;
 pub use error::{BookError, OwnError, SessionsFull, StartError};
 pub use pending::{BegunEntry, Pending, Prepared};

@@ -1,13 +1,13 @@
 //! Calls that read a book and change nothing.
 
-ghost use Rattle.std.specs.Prelude.{◌≡◌, ◌↔◌, ◌-◌, ◌^◌, ◌<◌, ◌&&◌, ℕ, true, false, None, [], ◌∷◌, ◌++◌, length, slice_get, option_copied, IsNone, IfSome, IfOk, IsTrue};
+ghost use Rattle.std.specs.Prelude.{◌≡◌, ◌↔◌, ◌-◌, ◌^◌, ◌<◌, ◌&&◌, ℕ, true, false, None, [], ◌∷◌, ◌++◌, length, slice_get, option_copied, option_map, IsNone, IfSome, IfOk, IsTrue};
 ghost use Rattle.std.specs.List.{list_any};
 ghost use Rattle.std.specs.Str.{bytes_eq};
 ghost use Rattle.cj_model.specs.Sql.PlainRequests.{request_of};
 ghost use Rattle.cj_model.specs.Cluster.Placements as placements;
 ghost use Rattle.cj_model.specs.Cluster.Placements.{concerns, hosts_all, needs};
 ghost use Rattle.cj_model.specs.Cluster.Masks.{in_mask};
-ghost use Rattle.cj_model.specs.Cluster.Caching.{after_keep, answer_kept};
+ghost use Rattle.cj_model.specs.Cluster.Caching.{after_keep, answer_kept, cached_entry};
 ghost use Rattle.cj_model.specs.declared.cached.Cached.{Cached};
 ghost use Rattle.cj_cluster.specs.declared.event.Event.{Event};
 ghost use Rattle.cj_cluster.specs.History.Histories as histories;
@@ -21,6 +21,7 @@ use crate::book::Book;
 use crate::error::BookError;
 use crate::pending::Prepared;
 use crate::touching::touched_behind;
+use cj_cache::SharedAnswer;
 use cj_cluster::BoxedEntry;
 use cj_log::LogMarker;
 use cj_model::{Act, Answer, BACKEND_LIMIT, EVENT_LIMIT, Entry, Name, NoMemory, Select, has_bit};
@@ -281,6 +282,15 @@ impl Book {
         ensures { option_copied result ≡ answer_kept select.now self.now.state.cache }
     {
         self.cache.kept(select)
+    }
+
+    /// Returns a share of the answer that the cache keeps of the query, with its log position. Takes constant time, so
+    /// that a lock on the book is short, and the rows are copied after it. No hit or miss is counted.
+    /// Fails only where the share can't be counted.
+    pub fn shared(&self, select: &Select) -> Result<Option<SharedAnswer>, NoMemory>
+        ensures { IfOk result (λ shared. option_map (λ x. (x.answer.value, x.at)) shared ≡ option_map (λ e. (e.answer, e.at)) (cached_entry select.now self.now.state.cache.entries)) }
+    {
+        self.cache.shared(select)
     }
 
     /// Returns true only if the cache keeps no answer that it is given.

@@ -36,10 +36,17 @@ value_of_entry : (s : Select) (es : Pairs) → lookup (same_statement s) es ≡ 
 value_of_entry s [] = refl
 value_of_entry s (e ∷ es) = cond_value (same_statement s e.0) e (lookup_entry (same_statement s) es) (lookup (same_statement s) es) (value_of_entry s es)
 
-pub answer_shown : (s : Select) (es : Pairs) → option_map (λ (h : Held). h.answer) (lookup (same_statement s) es) ≡ option_map (λ (e : Cached). e.answer) (cached_entry s (map cached es))
-answer_shown s es = ap (option_map (λ (h : Held). h.answer)) (value_of_entry s es) ∙ each (lookup_entry (same_statement s) es) ∙ ap (option_map (λ (e : Cached). e.answer)) (sym (entry_shown s es))
+pub answer_shown : (s : Select) (es : Pairs) → option_map (λ (h : Held). h.answer.value) (lookup (same_statement s) es) ≡ option_map (λ (e : Cached). e.answer) (cached_entry s (map cached es))
+answer_shown s es = ap (option_map (λ (h : Held). h.answer.value)) (value_of_entry s es) ∙ each (lookup_entry (same_statement s) es) ∙ ap (option_map (λ (e : Cached). e.answer)) (sym (entry_shown s es))
   where
-    each : (o : Option (Select × Held)) → option_map (λ (h : Held). h.answer) (option_map (λ (p : Select × Held). p.1) o) ≡ option_map (λ (e : Cached). e.answer) (option_map cached o)
+    each : (o : Option (Select × Held)) → option_map (λ (h : Held). h.answer.value) (option_map (λ (p : Select × Held). p.1) o) ≡ option_map (λ (e : Cached). e.answer) (option_map cached o)
+    each None = refl
+    each (Some p) = refl
+
+pub share_shown : (s : Select) (es : Pairs) → option_map (λ (h : Held). (h.answer.value, h.at)) (lookup (same_statement s) es) ≡ option_map (λ (e : Cached). (e.answer, e.at)) (cached_entry s (map cached es))
+share_shown s es = ap (option_map (λ (h : Held). (h.answer.value, h.at))) (value_of_entry s es) ∙ each (lookup_entry (same_statement s) es) ∙ ap (option_map (λ (e : Cached). (e.answer, e.at))) (sym (entry_shown s es))
+  where
+    each : (o : Option (Select × Held)) → option_map (λ (h : Held). (h.answer.value, h.at)) (option_map (λ (p : Select × Held). p.1) o) ≡ option_map (λ (e : Cached). (e.answer, e.at)) (option_map cached o)
     each None = refl
     each (Some p) = refl
 

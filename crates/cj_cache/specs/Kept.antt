@@ -10,7 +10,7 @@ use Rattle.cj_cache.specs.declared.held.Held.{Held}
 
 -- a statement and what is held of it, as an entry
 abbrev pub cached : Select × Held → Cached
-cached p = record { select = p.0; answer = p.1.answer; at = p.1.at }
+cached p = record { select = p.0; answer = p.1.answer.value; at = p.1.at }
 
 -- what a map holds, as entries
 abbrev pub entries_of_map : LruCache Select Held → List Cached
