@@ -14,6 +14,7 @@ ghost use Rattle.cj_cluster.specs.History.Histories as histories;
 ghost use Rattle.cj_cluster.specs.History.Histories.{log, is_free, tx_of};
 ghost use Rattle.cj_cluster.specs.History.Legality.{IsFitEntry};
 ghost use Rattle.cj_cluster.specs.History.Answering.{HasServer, HasNoServer};
+ghost use Rattle.cj_cache.specs.Kept.{kept_parts, shared_parts};
 ghost use Rattle.cj_book.specs.Books as books;
 ghost use Rattle.cj_book.specs.Books.{placement_at, has_session, is_candidate, is_target, Checks, HasRoom, IsPrepared};
 
@@ -288,7 +289,7 @@ impl Book {
     /// that a lock on the book is short, and the rows are copied after it. No hit or miss is counted.
     /// Fails only where the share can't be counted.
     pub fn shared(&self, select: &Select) -> Result<Option<SharedAnswer>, NoMemory>
-        ensures { IfOk result (λ shared. option_map (λ x. (x.answer.value, x.at)) shared ≡ option_map (λ e. (e.answer, e.at)) (cached_entry select.now self.now.state.cache.entries)) }
+        ensures { IfOk result (λ shared. option_map shared_parts shared ≡ option_map kept_parts (cached_entry select.now self.now.state.cache.entries)) }
     {
         self.cache.shared(select)
     }

@@ -4,7 +4,7 @@ ghost use Rattle.std.specs.Prelude.{◌≡◌, true, not, ℕ, [], ◌∷◌, fi
 ghost use Rattle.cj_model.specs.Cluster.Caching.{brought_to_front, counted_up, without_tables, empty_cache, cached_entry, has_answer, after_look, after_keep, without};
 ghost use Rattle.cj_model.specs.declared.cached.Cached.{Cached};
 ghost use Rattle.cj_model.specs.Cluster.Caching as caching;
-ghost use Rattle.cj_cache.specs.Kept.{HasCapacity, entries_held};
+ghost use Rattle.cj_cache.specs.Kept.{HasCapacity, entries_held, kept_parts, shared_parts};
 ghost use Rattle.cj_cache.specs.Proving.ByTable.{AreListed};
 
 use crate::by_table::ByTable;
@@ -152,7 +152,7 @@ impl Cache {
     /// Under a lock a share is taken in constant time, and the rows are copied after. The answer stays readable when
     /// the cache drops it. Fails only where the share can't be counted.
     pub fn shared(&self, select: &Select) -> Result<Option<SharedAnswer>, NoMemory>
-        ensures { IfOk result (λ shared. option_map (λ x. (x.answer.value, x.at)) shared ≡ option_map (λ e. (e.answer, e.at)) (cached_entry select.now self.now.entries)) }
+        ensures { IfOk result (λ shared. option_map shared_parts shared ≡ option_map kept_parts (cached_entry select.now self.now.entries)) }
     {
         match &self.held {
             None => Ok(None),

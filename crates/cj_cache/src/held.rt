@@ -50,7 +50,7 @@ pub fn share_of(
     held: &LruCache<Select, Held>,
     select: &Select,
 ) -> Result<Option<SharedAnswer>, NoMemory>
-    ensures { IfOk result (λ shared. option_map (λ x. (x.answer.value, x.at)) shared ≡ option_map (λ e. (e.answer, e.at)) (cached_entry select.now (entries_of_map held.now))) }
+    ensures { IfOk result (λ shared. option_map shared_parts shared ≡ option_map kept_parts (cached_entry select.now (entries_of_map held.now))) }
 {
     match held.peek(select) {
         None => Ok(None),
