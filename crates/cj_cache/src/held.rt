@@ -7,7 +7,7 @@ ghost use Rattle.std.specs.List.{list_any};
 ghost use Rattle.std.specs.Str.{bytes_eq};
 ghost use Rattle.cj_model.specs.Cluster.Caching.{brought_to_front, cached_entry, without};
 ghost use Rattle.cj_model.specs.Cluster.Caching as caching;
-ghost use Rattle.cj_cache.specs.Kept.{cached, entries_of_map, without_each};
+ghost use Rattle.cj_cache.specs.Kept.{cached, entries_of_map, kept_parts, shared_parts, without_each};
 ghost use Rattle.cj_cache.specs.Proving.ByTable.{AreListed, listed};
 
 use crate::by_table::{self, ByTable};
