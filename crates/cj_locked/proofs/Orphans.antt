@@ -1,5 +1,5 @@
 -- The administrator's entry that ends an orphan: it can come, and what becomes of it.
-use Rattle.std.proofs.Common.{◌≡◌, ◌≢◌, ℕ, ◌+◌, ◌-◌, ◌<◌, ◌≤◌, ◌==◌, ◌&&◌, not, Bool, true, List, [], ◌∷◌, ◌++◌, length, take, slice_get, Option, None, Some, Result, Ok, Err, refl, ap, sym, ◌∙◌, subst, arith, inr, ⊎_elim}
+use Rattle.std.proofs.Common.{◌≡◌, ◌≢◌, ℕ, ◌+◌, ◌-◌, ◌<◌, ◌≤◌, ◌==◌, ◌&&◌, not, Bool, true, false, List, [], ◌∷◌, ◌++◌, length, take, slice_get, Option, None, Some, Result, Ok, Err, refl, ap, sym, ◌∙◌, subst, arith, inr, ⊎_elim}
 use mathlib.Core.List.{IsPrefix}
 use Rattle.std.proofs.lemmas.Bool.{both_ways, eqb-true}
 use Rattle.cj_model.specs.declared.limits.TheConstants.{USER_LIMIT}
@@ -55,19 +55,6 @@ record BeganBy (b : BookState) (tx : ℕ) (o : Option Entry) : Type 0 where
 began_by : (b : BookState) (tx : ℕ) (o : Option Entry) → is_orphan_of b tx o ≡ true → BeganBy b tx o
 began_by b tx None is = absurd (cc is)
 began_by b tx (Some begin) is = record { begin = begin; is = refl; of_session = eqb-true (tx_of (log b.history) begin.session) tx (and_left (tx_of (log b.history) begin.session == tx) (not (has_session b begin.session)) is) }
-
--- an orphan has an entry that began it
-pub orphan_entry : (b : BookState) (tx : ℕ) → is_orphan b tx ≡ true → (begin : Entry) × (tx ≢ 0) × (slice_get (log b.history) (tx - 1) ≡ Some begin)
-orphan_entry b tx is = (let o = began_by b tx (entry_numbered (log b.history) tx) is in (o.begin, numbered_at (log b.history) tx o.begin o.is))
-
--- the user who began it
-pub orphan_user : (b : BookState) (tx : ℕ) (begin : Entry) → is_orphan b tx ≡ true → (0 < tx → Some begin ≡ slice_get (log b.history) (tx - 1)) → begin.user ≡ user_of (entry_numbered (log b.history) tx)
-orphan_user b tx begin is there =
-    let o = began_by b tx (entry_numbered (log b.history) tx) is in
-    let at = numbered_at (log b.history) tx o.begin o.is in
-    let some : tx ≢ 0 = at.0 in
-    let same : Some begin ≡ Some o.begin = there (omega arith) ∙ at.1 in
-    ap user_of (same ∙ sym o.is)
 
 -- it may come next
 pub abort_fits : (b : BookState) (tx : ℕ) → IsLegal b.history → is_orphan b tx ≡ true → IsFitEntry (log b.history) (abort_entry_of (log b.history) tx)

@@ -17,7 +17,7 @@ use crate::pass::{NamedBoard, Pass};
 use crate::turn::Turn;
 use cj_book::{BegunEntry, BookError, Counter, Prepared};
 use cj_log::LogError;
-use cj_model::{Act, Entry, NoMemory};
+use cj_model::{Act, Duplicate, Entry, NoMemory};
 use cj_outside::Store;
 use std::alloc::Global;
 
