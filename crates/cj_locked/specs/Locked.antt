@@ -3,7 +3,8 @@ use Rattle.std.specs.Prelude.{◌≡◌, ℕ, Bool, true, IfSome}
 use Rattle.std.specs.declared.option.Option.{Option}
 use Rattle.std.specs.declared.option.Option.TheVariants.{None}
 use Rattle.atomic_table.specs.Seated.{TableId}
-use Rattle.cj_cluster.specs.History.Histories.{is_free}
+use Rattle.cj_cluster.specs.History.Freshness.{IsFreshCache}
+use Rattle.cj_cluster.specs.History.Histories.{is_free, log}
 use Rattle.cj_place.specs.Layouts.{Layout}
 use Rattle.cj_book.specs.BookLogs.{BookLogState, LogFollows}
 use Rattle.cj_book.specs.Seated.{GivesOwnPassesOnly, SeatedBook}
@@ -20,11 +21,12 @@ pub record IsVacant {S : Type 0} (tells : Bool) (count : S → ℕ) (book : Seat
   pub unpending : book.pending ≡ None
   pub follows : LogFollows tells count l book.state.history
 
--- it is the book of this board and this layout, each of whose sessions was opened with an own pass; the ledger's
--- total is the turn's amount
-pub record IsLocked {S : Type 0} (board : TableId) (layout : Layout) (tells : Bool) (count : S → ℕ) (total : ℕ) (x : LockedState S) : Type 0 where
+-- It is the book of this board and this layout, each of whose sessions was opened with an own pass. The ledger's total
+-- is the turn's amount. Each kept answer is fresh, and right if the backends tell what they hold (`told`).
+pub record IsLocked {S : Type 0} (board : TableId) (layout : Layout) (told tells : Bool) (count : S → ℕ) (total : ℕ) (x : LockedState S) : Type 0 where
   pub on : x.book.board ≡ board
   pub laid : x.book.state.layout ≡ layout
   pub gives : GivesOwnPassesOnly x.book
   pub counted : total ≡ turn_amount x.book.state.history x.book.pending
   pub vacant : IfSome x.log (IsVacant tells count x.book)
+  pub fresh : IsFreshCache told (log x.book.state.history) x.book.state.cache

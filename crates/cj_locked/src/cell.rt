@@ -73,6 +73,9 @@ impl<J: Naming, B: Backend> LockedCell<J, B> {
         ensures legal { IsLegal (front pass.new.seat) }
         ensures backend { result.0 < BACKEND_LIMIT }
         ensures reports { ReportsEntry B.tells (placement_of J.layout) n e.now (pass_view pass.new.seat) result.0 result.1 }
+        ensures number { result.0 ≡ self.old.cell.state.b }
+        ensures carried { self.old.cell.state.position ≡ Some (n - 1) → CarriesOut self.old.cell.state n e.now login.now result.1 self.new.cell.state }
+        ensures elsewhere { self.old.cell.state.position ≢ Some (n - 1) → (result.1 ≡ Did.Starved) × (self.new.cell.state ≡ self.old.cell.state) }
     {
         let b = self.cell.number();
         self.cell.brief(&board.board, &mut pass.seat);
@@ -103,6 +106,7 @@ impl<J: Naming, B: Backend> LockedCell<J, B> {
         ensures more { HasNotedMore (pass_view pass.old.seat) (pass_view pass.new.seat) }
         ensures legal { IsLegal (front pass.new.seat) }
         ensures reports { ReportsEntry B.tells (placement_of J.layout) n e.now (pass_view pass.new.seat) self.old.cell.state.b result }
+        ensures carried { CarriesOut self.old.cell.state n e.now login.now result self.new.cell.state }
     {
         let caught = self.cell.catch_up(&board.board, n, e, login);
         self.cell.report(&board.board, &mut pass.seat);
@@ -125,6 +129,8 @@ impl<J: Naming, B: Backend> LockedCell<J, B> {
         ensures more { HasNotedMore (pass_view pass.old.seat) (pass_view pass.new.seat) }
         ensures legal { IsLegal (front pass.new.seat) }
         ensures answer { IsReadAnswer B.tells (placement_of J.layout) b tx select.now least (pass_view pass.new.seat) result }
+        ensures asked { self.old.cell.state.b ≡ b → ReadsAnswer self.old.cell.state login.now tx select.now least result self.new.cell.state }
+        ensures other { self.old.cell.state.b ≢ b → (result ≡ Err CellReadError.Out) × (self.new.cell.state ≡ self.old.cell.state) }
     {
         if self.cell.number() != b {
             self.cell.report(&board.board, &mut pass.seat);
@@ -134,5 +140,58 @@ impl<J: Naming, B: Backend> LockedCell<J, B> {
         let answer = self.cell.read(&board.board, login, tx, select, least);
         self.cell.report(&board.board, &mut pass.seat);
         answer
+    }
+
+    /// Asks backend `b` for all that it holds, drafts included, if this is its cell and stands at position `n`. The
+    /// pass has heard of it then.
+    ///
+    /// `Failed` counts a fault. A cell that is of another backend, or stands elsewhere, answers that it ran out of
+    /// memory. While the turn is held at a log of `n` entries no enabled one does.
+    pub fn contents(
+        &mut self,
+        board: &NamedBoard<J>,
+        pass: &mut Pass<J>,
+        b: u8,
+        n: u64,
+    ) -> Result<Db, CellError>
+        ensures more { HasNotedMore (pass_view pass.old.seat) (pass_view pass.new.seat) }
+        ensures legal { IsLegal (front pass.new.seat) }
+        ensures gives { GivesPart B.tells (placement_of J.layout) b n (pass_view pass.old.seat) (pass_view pass.new.seat) result }
+        ensures asked { (self.old.cell.state.b ≡ b) × (self.old.cell.state.position ≡ Some n) → GivesContents self.old.cell.state result self.new.cell.state }
+    {
+        unreachable!()
+    }
+
+    /// Looks where the backend stands: its number, its position or none if it is out, and its last login. The pass has
+    /// heard of it then.
+    pub fn look(
+        &mut self,
+        board: &NamedBoard<J>,
+        pass: &mut Pass<J>,
+    ) -> (u8, Option<u64>)
+        ensures more { HasNotedMore (pass_view pass.old.seat) (pass_view pass.new.seat) }
+        ensures legal { IsLegal (front pass.new.seat) }
+        ensures is { (result.0 ≡ self.old.cell.state.b) × (result.1 ≡ self.old.cell.state.position) }
+        ensures noted { IfSome result.1 (λ n. Contains (pass_view pass.new.seat).position_notes (result.0, n)) }
+        ensures state { self.new.cell.state ≡ self.old.cell.state }
+    {
+        unreachable!()
+    }
+
+    /// Lends the backend.
+    pub fn backend(&self) -> &B
+        ensures told { B.told result.now ≡ self.now.cell.state.told }
+        ensures login { B.login result.now ≡ self.now.cell.state.login }
+    {
+        self.cell.backend()
+    }
+
+    /// Takes the cell apart, and gives the backend.
+    pub fn into_backend(self) -> B
+        ensures told { B.told result ≡ self.cell.state.told }
+        ensures login { B.login result ≡ self.cell.state.login }
+    {
+        let LockedCell { cell, .. } = self;
+        cell.into_backend()
     }
 }
