@@ -3,6 +3,8 @@ pub mod Changing
 pub mod Ending
 pub mod Finishing
 pub mod Following
+pub mod Fresh
+pub mod Looking
 pub mod Marking
 pub mod Opening
 pub mod Passes
