@@ -5,7 +5,9 @@ pub mod Ending
 pub mod Failing
 pub mod Finishing
 pub mod Following
+pub mod Fresh
 pub mod Holding
+pub mod Looking
 pub mod Marking
 pub mod Opening
 pub mod Orphans

@@ -142,6 +142,7 @@ impl<J: Naming, S: Store + Drop> LockedBook<J, S> {
         ensures state { self.new.book.state ≡ self.old.book.state }
         ensures heard { (note : ℕ × ℕ) → Contains (pass_view pass.old.seat).position_notes note → Contains self.new.book.view.position_notes note }
         ensures log { self.new.log ≡ self.old.log }
+        ensures pending { self.new.book.pending ≡ self.old.book.pending }
     {
         self.book.legal();
         self.book.tell(&board.board, &mut pass.seat);
