@@ -1,6 +1,6 @@
 //! The book and the cells, each behind its lock.
 
-ghost use Rattle.std.specs.Prelude.{◌≡◌, length};
+ghost use Rattle.std.specs.Prelude.{◌≡◌, ◌≤◌, length, vec_capacity};
 
 use cj_auth::Accounts;
 use cj_backend::Backend;
@@ -28,9 +28,13 @@ pub struct Control<J: Naming, B: Backend, S: Store> {
     pub(crate) accounts: Accounts,
     /// Whether the result cache keeps answers.
     pub(crate) keeps: bool,
-    /// An empty list with room for the backends, so that giving them up takes no memory.
+    /// An empty list with room for the cells, and one for the backends, so that giving them up takes no memory.
+    pub(crate) unlocked: Vec<LockedCell<J, B>>,
     pub(crate) emptied: Vec<B>,
     ghost laid: { placement ≡ J.layout },
     ghost registered: { accounts.backends ≡ length placement.names },
     ghost told: { J.tells ≡ B.tells },
+    ghost housed: { length cells.items ≡ length placement.names },
+    ghost empty: { (length unlocked.items ≡ 0) × (length emptied.items ≡ 0) },
+    ghost room: { (length placement.names ≤ vec_capacity unlocked) × (length placement.names ≤ vec_capacity emptied) },
 }
