@@ -28,8 +28,9 @@ pub record AreOfStarted {S : Type 0} (tells logged : Bool) (count : S → ℕ) (
   pub items : List LogItem
   pub opening : List Event
   pub opens : OpensTo items opening
+  pub placement : Placement
   pub faults : List ℕ
-  pub started : HasStarted world.core.placement opening faults world
+  pub started : HasStarted placement opening faults world
   pub apart : IsTakenApart tells world id pass b xs register taken
   pub follows : LogFollows logged count l b.state.history
 
