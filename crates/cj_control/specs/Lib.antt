@@ -1,0 +1,4 @@
+pub mod Callers
+pub mod Reading
+pub mod Starting
+pub mod Writing
