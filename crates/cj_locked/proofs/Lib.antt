@@ -5,6 +5,7 @@ pub mod Finishing
 pub mod Following
 pub mod Marking
 pub mod Opening
+pub mod Orphans
 pub mod Passes
 pub mod Reading
 pub mod Taking
