@@ -230,14 +230,7 @@ impl<J: Naming, B: Backend, S: Store + Drop> Control<J, B, S> {
                 ensures { result ≡ false → locked.new.book.pending ≡ None }
             { locked.is_pending() },
         );
-        book.fail_read(
-            &self.board,
-            pass,
-            query.session,
-            query.seq,
-            b,
-            query.select,
-        )
+        book.fail_read(&self.board, pass, query.session, query.seq, b, query.select)
     }
 
     /// Has the history tell that backend `b` failed in the query, or refuses the session.
@@ -404,24 +397,13 @@ impl<J: Naming, B: Backend, S: Store + Drop> Control<J, B, S> {
             Ok(Look::Kept(answer, at)) => Some(self.reply_kept(query, &answer, at)),
             Ok(Look::Ask(b, owed)) => self.try_at(rt, pass, query, tries, b, owed),
             Ok(Look::Tried(serving)) => self.tried_all(rt, query, tries, serving),
-            Ok(Look::Unserved) => Some((
-                Reply::Refused(Refusal::of_code(NO_BACKEND)),
-                query.least,
-            )),
-            Err(_) => Some((
-                Reply::Refused(Refusal::of_code(NO_MEMORY)),
-                query.least,
-            )),
+            Ok(Look::Unserved) => Some((Reply::Refused(Refusal::of_code(NO_BACKEND)), query.least)),
+            Err(_) => Some((Reply::Refused(Refusal::of_code(NO_MEMORY)), query.least)),
         }
     }
 
     /// Looks and asks until the query is answered or refused.
-    fn read_until<R: Wait>(
-        &self,
-        rt: &R,
-        pass: &mut Pass<J>,
-        query: &Query<'_>,
-    ) -> (Reply, u64)
+    fn read_until<R: Wait>(&self, rt: &R, pass: &mut Pass<J>, query: &Query<'_>) -> (Reply, u64)
         requires written { IsWritten (request.Select query.now.select.now) }
         requires owes { query.now.least ≤ length (log (front pass.old.seat)) }
         ensures ended { EndsRead B.tells (placement_of J.layout) (front pass.old.seat) query.now.session query.now.seq query.now.tx query.now.select.now query.now.least (front pass.new.seat) result.0 result.1 }
