@@ -174,7 +174,7 @@ impl<J: Naming, B: Backend, S: Store + Drop> Control<J, B, S> {
     /// caller had, too.
     pub fn leave<R: Wait>(&self, rt: &R, caller: Caller<'_, J, B, S>, pass: &mut Pass<J>)
         ensures more { HasNotedMore (pass_view pass.old.seat) (pass_view pass.new.seat) }
-        ensures seen { IsPrefix (front caller.pass.seat) (front pass.new.seat) }
+        ensures seen { IsPrefix (front caller.entry.pass.seat) (front pass.new.seat) }
     {
         let Caller {
             pass: mut own,
