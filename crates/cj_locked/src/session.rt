@@ -1,6 +1,7 @@
 //! How sessions come and go at the book. None of it needs the turn.
 
-ghost use Rattle.std.specs.Prelude.{ℕ, ◌≡◌, ◌↔◌, ◌<◌, IfOk, OnErr, OnOk, IsErrOf};
+ghost use Rattle.std.specs.Prelude.{ℕ, ◌≡◌, ◌↔◌, ◌<◌, ◌≤◌, IfOk, OnErr, OnOk, IsErrOf};
+ghost use Rattle.cj_model.specs.declared.limits.TheConstants.{SESSION_NUMBER_LIMIT};
 ghost use Rattle.cj_cluster.specs.History.Legality.{IsLegal};
 ghost use Rattle.cj_board.specs.Counting.{event_count_of};
 ghost use Rattle.cj_board.specs.Seats.{front, pass_view};
@@ -16,6 +17,8 @@ impl<J: Naming, S: Store + Drop> LockedBook<J, S> {
     /// Opens a session with its own pass, which has seen the history and has counted each event of the session.
     pub fn open(&mut self, board: &NamedBoard<J>) -> Result<(u64, Pass<J>), OwnError>
         ensures own { IfOk result (λ opened. (0 < opened.0) × ((pass_view opened.1.seat).own_session ≡ opened.0)) }
+        ensures limit { IfOk result (λ opened. opened.0 ≤ SESSION_NUMBER_LIMIT) }
+        ensures none { IfOk result (λ opened. (pass_view opened.1.seat).count ≡ 0) }
         ensures counted { IfOk result (λ opened. event_count_of opened.0 (front opened.1.seat) ≡ (pass_view opened.1.seat).count) }
         ensures legal { IfOk result (λ opened. IsLegal (front opened.1.seat)) }
         ensures told { IfOk result (λ opened. front opened.1.seat ≡ self.new.book.state.history) }
