@@ -331,12 +331,15 @@ impl<J: Naming, B: Backend, S: Store + Drop> Control<J, B, S> {
         }
     }
 
-    /// Waits until the first `n` entries have ended.
-    fn wait_for_ended<R: Wait>(&self, rt: &R, n: u64) {
+    /// Waits until each entry that is in the log by now has ended. No session was answered at a later one. A backend
+    /// that is out is disabled then.
+    fn wait_for_ends<R: Wait>(&self, rt: &R) {
+        let book = self.book.lock(rt);
+        let scheduled = book.length();
         self.settled.wait_while(
             rt,
-            self.book.lock(rt),
-            |locked: &mut LockedBook<J, S>| -> bool { locked.has_ended_fewer(n) },
+            book,
+            |locked: &mut LockedBook<J, S>| -> bool { locked.has_ended_fewer(scheduled) },
         );
     }
 
@@ -361,7 +364,7 @@ impl<J: Naming, B: Backend, S: Store + Drop> Control<J, B, S> {
             return Some((Reply::Refused(refusal), query.least));
         }
         tries.later = 0;
-        self.wait_for_ended(rt, query.least);
+        self.wait_for_ends(rt);
         None
     }
 

@@ -222,6 +222,13 @@ impl<J: Naming, S: Store + Drop> LockedBook<J, S> {
         self.book.is_pending()
     }
 
+    /// Returns the number of entries in the log.
+    pub fn length(&self) -> u64
+        ensures { result ≡ length (log self.now.book.state.history) }
+    {
+        self.book.length()
+    }
+
     /// Returns whether fewer than `n` entries have ended.
     pub fn has_ended_fewer(&self, n: u64) -> bool
         ensures { (result ≡ true) ↔ (ended_count self.now.book.state.history < n) }
