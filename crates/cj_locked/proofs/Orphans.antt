@@ -1,5 +1,5 @@
 -- The administrator's entry that ends an orphan: it can come, and what becomes of it.
-use Rattle.std.proofs.Common.{◌≡◌, ◌≢◌, ℕ, ◌+◌, ◌-◌, ◌<◌, ◌≤◌, ◌==◌, ◌&&◌, not, Bool, true, false, List, [], ◌∷◌, ◌++◌, length, take, slice_get, Option, None, Some, Result, Ok, Err, refl, ap, sym, ◌∙◌, subst, arith, inr, ⊎_elim}
+use Rattle.std.proofs.Common.{◌≡◌, ◌≢◌, ℕ, ◌+◌, ◌-◌, ◌≤◌, ◌==◌, ◌&&◌, not, Bool, true, false, List, [], ◌∷◌, ◌++◌, length, take, Option, None, Some, Result, Ok, Err, refl, ap, sym, ◌∙◌, subst, arith, inr, ⊎_elim}
 use mathlib.Core.List.{IsPrefix}
 use Rattle.std.proofs.lemmas.Bool.{both_ways, eqb-true}
 use Rattle.cj_model.specs.declared.limits.TheConstants.{USER_LIMIT}
@@ -36,7 +36,7 @@ use Rattle.cj_book.specs.declared.error.BookError.TheVariants.{InProgress, NoBac
 use Rattle.cj_book.specs.declared.pending.Pending.TheVariants as pending
 use Rattle.cj_book.specs.declared.pending.Prepared.{Prepared}
 use Rattle.cj_book.proofs.Owned.{came_gives, finished_greatest, low_sessions}
-use Rattle.cj_locked.specs.Orphans.{abort_entry_of, BeginsAbortSince, IsAbortOf, RefusesAbort, RefusesAppendedAt, RefusesAppendedSince, SchedulesAbortSince}
+use Rattle.cj_locked.specs.Orphans.{abort_entry_of, BeginsAbortSince, RefusesAbort, RefusesAppendedAt, RefusesAppendedSince, SchedulesAbortSince}
 use Rattle.cj_locked.specs.Turns.{turn_amount}
 use Rattle.cj_locked.specs.Writing.{SchedulesSince}
 

@@ -167,9 +167,9 @@ impl<J: Naming, S: Store + Drop> LockedBook<J, S> {
         turn.audit(&mut self.ledger);
         turn.uncount(&mut self.ledger, 1);
         self.book.legal();
-        let finished =
-            self.book
-                .finish_entry(&board.board, &mut Counter::Nobody, e, prepared, appended);
+        let finished = self
+            .book
+            .finish_entry(&board.board, &mut Counter::Nobody, e, prepared, appended);
         match finished {
             Ok(number) => {
                 turn.count(&mut self.ledger, 3);

@@ -4,7 +4,6 @@ use Rattle.cj_model.specs.declared.request.Entry.{Entry}
 use Rattle.cj_cluster.specs.declared.event.Event.{Event}
 use Rattle.cj_cluster.specs.declared.event.Event.TheVariants.{Sched}
 use Rattle.cj_cluster.specs.History.Histories.{is_free, log}
-use Rattle.cj_cluster.specs.History.Legality.{IsFitEntry}
 use Rattle.cj_place.specs.Layouts.{placement_of}
 use Rattle.cj_book.specs.BookLogs.{BookLogState, LogFollows}
 use Rattle.cj_book.specs.Books.{is_orphan, placement_at, BookState, IsPrepared}
@@ -13,10 +12,9 @@ use Rattle.cj_book.specs.declared.pending.Pending.TheVariants as pending
 use Rattle.cj_book.proofs.Owners.{orphan_counted}
 use Rattle.cj_cluster.specs.History.Freshness.{IsFreshCache}
 use Rattle.cj_locked.specs.Locked.{IsVacant}
-use Rattle.cj_locked.specs.Orphans.{RefusesAppendedSince, SchedulesAbortSince}
+use Rattle.cj_locked.specs.Orphans.{RefusesAppendedSince}
 use Rattle.cj_locked.specs.Turns.{turn_amount}
-use Rattle.cj_locked.specs.Writing.{HoldsAppended, HoldsEntry}
-use Rattle.cj_locked.proofs.Finishing.{amount_refused, amount_scheduled, appended_ok, finished_layout, holds_now, is_pending, nobody_there, refusal_follows, refusal_idle, schedules_now, some_amount, still_fit, still_prepared}
+use Rattle.cj_locked.proofs.Finishing.{amount_refused, amount_scheduled, appended_ok, finished_layout, holds_now, is_pending, nobody_there, refusal_follows, refusal_idle, schedules_now, still_fit, still_prepared}
 use Rattle.cj_locked.proofs.Orphans.{abort_fresh, abort_gives, abort_scheduled, abort_unfinished}
 use Rattle.cj_locked.proofs.book.LockedBook.finish_orphan.Goals as goal
 
