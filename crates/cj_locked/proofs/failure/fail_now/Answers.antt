@@ -14,7 +14,7 @@ returns-in-Ok-clause-state c = only_history c.args.book.now.state c.read_failed.
 pub unnoted-requires : goal.unnoted-requires
 unnoted-requires c =
     let room = no_room c.args.book.now.state c.read_failed.new.self.state _ c.read_failed.result _ c.read_failed.ensures.state c.in-Err.is in
-    subst (λ (b : BookState). events_left b.history < 1) (sym room.1) room.0
+    record { full = subst (λ (b : BookState). events_left b.history < 1) (sym room.1) room.0 }
 
 pub returns-in-Err-clause-fails : goal.returns-in-Err-clause-fails
 returns-in-Err-clause-fails c =
