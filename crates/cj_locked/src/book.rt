@@ -115,6 +115,7 @@ impl<J: Naming, S: Store + Drop> LockedBook<J, S> {
         requires total { ledger.total ≡ 0 }
         requires follows { LogFollows S.tells S.faults turn.log book.state.history }
         requires fresh { IsFreshCache J.tells (log book.state.history) book.state.cache }
+        requires none_given { book.view.last_given ≡ 0 }
         ensures { result ≡ record { book = book; log = Some turn.log } }
     {
         book.legal();
