@@ -10,7 +10,7 @@ ghost use Rattle.cj_cluster.specs.History.Histories.{log};
 ghost use Rattle.cj_cluster.specs.History.Legality.{IsLegal};
 ghost use Rattle.cj_board.specs.Counting.{event_count_of};
 ghost use Rattle.cj_board.specs.Seats.{front, pass_view};
-ghost use Rattle.cj_locked.specs.Passes.{HasNotedMore, HasSeenMore};
+ghost use Rattle.cj_locked.specs.Passes.{HasNotedMore, HasSeenMore, WasGiven};
 ghost use Rattle.cj_locked.specs.Writing.{AreUpTo};
 ghost use Rattle.cj_control.specs.Writing.{least_after};
 
@@ -107,15 +107,16 @@ impl<J: Naming, B: Backend, S: Store + Drop> Control<J, B, S> {
         Reply::Refused(Refusal::of_code(NO_MEMORY))
     }
 
-    /// Opens a session at the book.
-    fn open<R: Wait>(&self, rt: &R) -> Result<(u64, Pass<J>), OwnError>
+    /// Opens a session at the book, whose notes the pass has then.
+    fn open<R: Wait>(&self, rt: &R, pass: &mut Pass<J>) -> Result<(u64, Pass<J>), OwnError>
         ensures own { IfOk result (λ opened. (0 < opened.0) × ((pass_view opened.1.seat).own_session ≡ opened.0)) }
         ensures limit { IfOk result (λ opened. opened.0 ≤ SESSION_NUMBER_LIMIT) }
         ensures none { IfOk result (λ opened. (pass_view opened.1.seat).count ≡ 0) }
         ensures legal { IfOk result (λ opened. IsLegal (front opened.1.seat)) }
-        ensures full { (n : ℕ) → IsErrOf result (OwnError.SessionsFull n) → n ≡ SESSION_NUMBER_LIMIT }
+        ensures full { (n : ℕ) → IsErrOf result (OwnError.SessionsFull n) → (n ≡ SESSION_NUMBER_LIMIT) × WasGiven (pass_view pass.new.seat) n }
+        ensures pass { HasNotedMore (pass_view pass.old.seat) (pass_view pass.new.seat) }
     {
-        self.book.lock(rt).open(&self.board)
+        self.book.lock(rt).open(&self.board, pass)
     }
 
     /// Makes the caller of a session that was opened now, which has seen what this pass has.
@@ -150,7 +151,8 @@ impl<J: Naming, B: Backend, S: Store + Drop> Control<J, B, S> {
     /// Opens a session, of which nothing came yet. It has seen the history, and all that the pass has seen, and reads
     /// what had ended by then.
     ///
-    /// `SessionsFull` comes where no session number is left, after 2^62 of them.
+    /// `SessionsFull` comes where no session number is left: session 2^62 was given, or the history has one not below.
+    /// The pass shows it.
     pub fn caller<R: Wait>(
         &self,
         rt: &R,
@@ -160,10 +162,10 @@ impl<J: Naming, B: Backend, S: Store + Drop> Control<J, B, S> {
         ensures begins { IfOk result (λ caller. (caller.least ≡ 0) × (caller.queries ≡ 0)) }
         ensures seen { IfOk result (λ caller. IsPrefix (front pass.old.seat) (front caller.pass.seat)) }
         ensures legal { IfOk result (λ caller. IsLegal (front caller.pass.seat)) }
-        ensures full { (n : ℕ) → IsErrOf result (CallerError.SessionsFull n) → n ≡ SESSION_NUMBER_LIMIT }
-        ensures pass { pass_view pass.new.seat ≡ pass_view pass.old.seat }
+        ensures full { (n : ℕ) → IsErrOf result (CallerError.SessionsFull n) → (n ≡ SESSION_NUMBER_LIMIT) × WasGiven (pass_view pass.new.seat) n }
+        ensures pass { HasNotedMore (pass_view pass.old.seat) (pass_view pass.new.seat) }
     {
-        match self.open(rt) {
+        match self.open(rt, pass) {
             Ok((session, own)) => Ok(self.connect(rt, pass, session, own)),
             Err(OwnError::SessionsFull(greatest)) => Err(CallerError::SessionsFull(greatest)),
             Err(OwnError::NoMemory) => Err(CallerError::NoMemory),

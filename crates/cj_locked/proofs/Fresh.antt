@@ -69,7 +69,7 @@ module _ {S : Type 0} (board : TableId) (layout : Layout) (told tells : Bool) (c
   locked_after_read c b now fresh =
       let is : new ≡ record old { state = record old.state { cache = c; balance = b } } = λ i. record { state = now i; board = seat.0 i; view = seat.1 i; pending = seat.2 i } in
       subst (λ (x : SeatedBook). IsLocked board layout told tells count total (record { book = x; log = l })) (sym is)
-      (record { on = locked.on; laid = locked.laid; gives = locked.gives; counted = locked.counted; vacant = still_vacant c b l locked.vacant; fresh = fresh })
+      (record { on = locked.on; laid = locked.laid; gives = locked.gives; counted = locked.counted; vacant = still_vacant c b l locked.vacant; fresh = fresh; noted = locked.noted })
 
   -- an answer that was given to the cache, which keeps it only if nothing has touched its tables since
   pub locked_after_keep : (e : Cached) (r : Result Bool NoMemory) → IsAnswer e.answer → e.at ≤ length (log old.state.history) → (told ≡ true → IsAnswerAt (log old.state.history) e.at e.select (Rows e.answer))

@@ -11,6 +11,7 @@ ghost use Rattle.cj_place.specs.Layouts.{placement_of};
 ghost use Rattle.cj_book.specs.Books.{placement_at};
 ghost use Rattle.cj_book.specs.Seated.{GivesOwnPassesOnly};
 ghost use Rattle.cj_locked.specs.Failures.{FailsAt, FailsSince};
+ghost use Rattle.cj_locked.specs.Locked.{LastIsNoted};
 ghost use Rattle.cj_locked.specs.Passes.{HasSeenMore};
 
 use crate::book::LockedBook;
@@ -62,6 +63,7 @@ fn fail_now(
     ensures board { book.new.board ≡ book.old.board }
     ensures pending { book.new.pending ≡ book.old.pending }
     ensures still_gives { GivesOwnPassesOnly book.old → GivesOwnPassesOnly book.new }
+    ensures noted { LastIsNoted book.old.view → LastIsNoted book.new.view }
 {
     match book.read_failed(board, session, seq, b) {
         Ok(()) => ReadFailure::Noted,

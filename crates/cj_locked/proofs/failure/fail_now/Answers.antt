@@ -3,6 +3,7 @@ use Rattle.cj_cluster.specs.History.Histories.{events_left}
 use Rattle.cj_book.specs.Books.{placement_at, BookState}
 use Rattle.cj_locked.specs.Failures.{FailsAt}
 use Rattle.cj_locked.proofs.Failing.{no_room, only_history}
+use Rattle.cj_locked.proofs.Noting.{keeps_event, still_noted}
 use Rattle.cj_locked.proofs.failure.fail_now.Goals as goal
 
 pub returns-in-Ok-clause-fails : goal.returns-in-Ok-clause-fails
@@ -26,3 +27,9 @@ pub returns-in-Err-clause-state : goal.returns-in-Err-clause-state
 returns-in-Err-clause-state c =
     let room = no_room c.args.book.now.state c.read_failed.new.self.state _ c.read_failed.result _ c.read_failed.ensures.state c.in-Err.is in
     only_history c.args.book.now.state c.read_failed.new.self.state c.args.book.now.state.history room.1
+
+pub returns-in-Ok-clause-noted : goal.returns-in-Ok-clause-noted
+returns-in-Ok-clause-noted c = still_noted c.args.book.now.view c.read_failed.new.self.view (keeps_event _ c.args.book.now.view c.read_failed.new.self.view c.read_failed.ensures.seat)
+
+pub returns-in-Err-clause-noted : goal.returns-in-Err-clause-noted
+returns-in-Err-clause-noted c = still_noted c.args.book.now.view c.read_failed.new.self.view (keeps_event _ c.args.book.now.view c.read_failed.new.self.view c.read_failed.ensures.seat)

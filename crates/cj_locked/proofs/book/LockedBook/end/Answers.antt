@@ -10,6 +10,7 @@ use Rattle.cj_model.specs.Cluster.Placements.{Placement}
 use Rattle.cj_book.specs.Books.{is_target_at, placement_at, with_event, BookState}
 use Rattle.cj_locked.proofs.Ending.{amount_ended, same_counted, end_follows, end_idle, end_last, end_open, end_positions, end_tokens, end_unpending, ends_since, fit_masks}
 use Rattle.cj_locked.proofs.Fresh.{fresh_event, fresh_same}
+use Rattle.cj_locked.proofs.Noting.{keeps_event, keeps_learning, still_noted}
 use Rattle.cj_locked.proofs.book.LockedBook.end.Goals as goal
 
 pub end-requires-clause-open : goal.end-requires-clause-open
@@ -59,6 +60,9 @@ invariant_of-self g c =
       };
       fresh = fresh_event g.J.Naming.tells c.learn.new.self.state c.tell.new.self.state (Ended c.settled-tally.result.failed c.settled-tally.result.starved) refl (c.tell.ensures.state ∙ c.end.ensures.state)
           (fresh_same g.J.Naming.tells c.self.inside.book.state c.learn.new.self.state c.learn.ensures.state c.self.invariant.fresh);
+      noted = still_noted c.end.new.self.view c.tell.new.self.view (keeps_learning c.end.new.self.view _ c.tell.new.self.view c.tell.ensures.book)
+          (still_noted c.learn.new.self.view c.end.new.self.view (keeps_event (Some (Ended c.settled-tally.result.failed c.settled-tally.result.starved)) c.learn.new.self.view c.end.new.self.view c.end.ensures.seat)
+          (still_noted c.self.inside.book.view c.learn.new.self.view (keeps_learning c.self.inside.book.view _ c.learn.new.self.view c.learn.ensures.book) c.self.invariant.noted));
     }
 
 pub returns-clause-ended : goal.returns-clause-ended

@@ -9,6 +9,7 @@ use Rattle.cj_locked.specs.Failures.{FailsAt}
 use Rattle.cj_locked.proofs.Ending.{same_counted}
 use Rattle.cj_locked.proofs.Failing.{failed_amount, failed_fresh, failed_since, failed_state, failed_vacant, gives_on, learned_tokens, read_ended, seen_split}
 use Rattle.cj_locked.proofs.Passes.{noted_joined, seen_then}
+use Rattle.cj_locked.proofs.Noting.{keeps_learning, keeps_same, still_noted}
 use Rattle.cj_locked.proofs.book.LockedBook.fail_read.Goals as goal
 
 pub fail_now-failure-requires-clause-fault : goal.fail_now-failure-requires-clause-fault
@@ -37,6 +38,10 @@ invariant_of-self g c =
       fresh = failed_fresh (placement_at learned.state) learned.state.history failed.state.history c.args.session c.args.seq c.args.b c.args.select.now c.fail_now-failure.result at g.J.Naming.tells learned.state.cache last.state.cache last.state.history history
           (ap (λ (x : BookState). x.cache) now ∙ ap (λ (x : BookState). x.cache) c.fail_now-failure.ensures.state)
           (subst (λ (x : BookState). IsFreshCache g.J.Naming.tells (log x.history) x.cache) (sym c.learn.ensures.state) c.self.invariant.fresh);
+      noted = still_noted c.ended.new.self.view last.view (keeps_learning c.ended.new.self.view _ last.view c.tell.ensures.book)
+          (still_noted failed.view c.ended.new.self.view (keeps_same failed.view c.ended.new.self.view c.ended.ensures.seat.1)
+          (c.fail_now-failure.ensures.noted
+          (still_noted old.view learned.view (keeps_learning old.view _ learned.view c.learn.ensures.book) c.self.invariant.noted)));
     }
 
 pub returns-clause-fails : goal.returns-clause-fails

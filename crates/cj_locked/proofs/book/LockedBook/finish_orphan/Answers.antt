@@ -16,6 +16,7 @@ use Rattle.cj_locked.specs.Orphans.{RefusesAppendedSince}
 use Rattle.cj_locked.specs.Turns.{turn_amount}
 use Rattle.cj_locked.proofs.Finishing.{amount_refused, amount_scheduled, appended_ok, finished_layout, holds_now, is_pending, nobody_there, refusal_follows, refusal_idle, schedules_now, still_fit, still_prepared}
 use Rattle.cj_locked.proofs.Orphans.{abort_fresh, abort_gives, abort_scheduled, abort_unfinished}
+use Rattle.cj_locked.proofs.Noting.{keeps_event, still_noted}
 use Rattle.cj_locked.proofs.book.LockedBook.finish_orphan.Goals as goal
 
 pub finish_entry-finished-requires-clause-pending : goal.finish_entry-finished-requires-clause-pending
@@ -69,6 +70,7 @@ invariant_of-self g c =
       counted = c.count.ensures.total ∙ (amount_scheduled old.history e c.uncount.new.ledger.total total ∙ (λ i. turn_amount (sym now i) (sym f.ensures.pending i)));
       vacant = nobody_there g.S.Store.tells g.S.Store.faults c.self.inside.book _ pending.Entry c.self.invariant.vacant awaited (IsVacant g.S.Store.tells g.S.Store.faults f.new.self);
       fresh = subst (λ (b : BookState). IsFreshCache g.J.Naming.tells (log b.history) b.cache) (sym f.ensures.state) (abort_fresh g.J.Naming.tells old e a c.self.invariant.fresh);
+      noted = still_noted c.self.inside.book.view f.new.self.view (keeps_event _ c.self.inside.book.view f.new.self.view f.ensures.seat) c.self.invariant.noted;
     }
 
 pub invariant_of-self-in-Err : goal.invariant_of-self-in-Err
@@ -99,6 +101,7 @@ invariant_of-self-in-Err g c =
             (subst (λ (x : List Event). LogFollows g.S.Store.tells g.S.Store.faults c.args.turn.log x) (sym now) (refusal_follows g.S.Store.tells g.S.Store.faults (placement_of g.J.Naming.layout) c.args.self.now.book.state.history e c.args.prepared c.args.turn.share.amount c.args.turn.log a c.requires.holds old before c.self.inside.book.pending whole k c.in-Err.error answer));
       };
       fresh = subst (λ (b : BookState). IsFreshCache g.J.Naming.tells (log b.history) b.cache) (sym f.ensures.state) (abort_fresh g.J.Naming.tells old e a c.self.invariant.fresh);
+      noted = still_noted c.self.inside.book.view f.new.self.view (keeps_event _ c.self.inside.book.view f.new.self.view f.ensures.seat) c.self.invariant.noted;
     }
 
 pub returns-in-Ok-clause-ok : goal.returns-in-Ok-clause-ok

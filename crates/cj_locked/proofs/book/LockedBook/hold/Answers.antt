@@ -9,6 +9,7 @@ use Rattle.cj_locked.specs.Locked.{IsVacant}
 use Rattle.cj_locked.proofs.Ending.{same_counted}
 use Rattle.cj_locked.proofs.Holding.{holds_turn}
 use Rattle.cj_locked.proofs.Passes.{noted_joined}
+use Rattle.cj_locked.proofs.Noting.{keeps_learning, still_noted}
 use Rattle.cj_locked.proofs.book.LockedBook.hold.Goals as goal
 
 pub invariant_of-self : goal.invariant_of-self
@@ -19,6 +20,7 @@ invariant_of-self g c = record {
   counted = c.audit.ensures.total ∙ (c.self.invariant.counted ∙ sym (same_counted c.self.inside.book c.tell.new.self c.tell.ensures.state c.tell.ensures.pending));
   vacant = search rules;
   fresh = subst (λ (x : BookState). IsFreshCache g.J.Naming.tells (log x.history) x.cache) (sym c.tell.ensures.state) c.self.invariant.fresh;
+  noted = still_noted c.self.inside.book.view c.tell.new.self.view (keeps_learning c.self.inside.book.view _ c.tell.new.self.view c.tell.ensures.book) c.self.invariant.noted;
 }
 
 pub returns-clause-holds : goal.returns-clause-holds
