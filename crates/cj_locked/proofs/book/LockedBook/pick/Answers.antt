@@ -13,12 +13,13 @@ pub pick-requires : goal.pick-requires
 pick-requires g c = rest_below c.args.serving c.args.tried c.without.result c.requires.below c.without.ensures
 
 pub invariant_of-self : goal.invariant_of-self
-invariant_of-self g c = elim c.match-pick.branch [
-  in-Some w ↦ locked_after_read g.J.Naming.board g.J.Naming.layout g.J.Naming.tells g.S.Store.tells g.S.Store.faults c.self.inside.ledger.total c.self.inside.book c.pick.new.self _ c.pick.ensures.seat c.self.invariant c.self.inside.book.state.cache
-      (read_at c.self.inside.book.state.balance w.in-Some.b) w.in-Some.ensures.some.stands c.self.invariant.fresh
-| in-None w ↦ locked_after_read g.J.Naming.board g.J.Naming.layout g.J.Naming.tells g.S.Store.tells g.S.Store.faults c.self.inside.ledger.total c.self.inside.book c.pick.new.self _ c.pick.ensures.seat c.self.invariant c.self.inside.book.state.cache
-      c.self.inside.book.state.balance (c.pick.ensures.same (ap is_some w.in-None.is)) c.self.invariant.fresh
-]
+invariant_of-self g c =
+    elim c.match-pick.branch [
+      in-Some w ↦ locked_after_read g.J.Naming.board g.J.Naming.layout g.J.Naming.tells g.S.Store.tells g.S.Store.faults c.self.inside.ledger.total c.self.inside.book c.pick.new.self _ c.pick.ensures.seat c.self.invariant
+          c.self.inside.book.state.cache (read_at c.self.inside.book.state.balance w.in-Some.b) w.in-Some.ensures.some.stands c.self.invariant.fresh
+    | in-None w ↦ locked_after_read g.J.Naming.board g.J.Naming.layout g.J.Naming.tells g.S.Store.tells g.S.Store.faults c.self.inside.ledger.total c.self.inside.book c.pick.new.self _ c.pick.ensures.seat c.self.invariant
+          c.self.inside.book.state.cache c.self.inside.book.state.balance (c.pick.ensures.same (ap is_some w.in-None.is)) c.self.invariant.fresh
+    ]
 
 pub returns-clause-picks : goal.returns-clause-picks
 returns-clause-picks g c =

@@ -1,7 +1,4 @@
-use Rattle.std.proofs.Common.{rules, ◌≡◌, ◌≤◌, Some, length, sym, subst, ap, ◌∙◌}
-use Rattle.cj_model.specs.Cluster.Caching.{cached_entry}
-use Rattle.cj_cluster.specs.History.Histories.{log}
-use Rattle.cj_book.specs.Books.{BookState}
+use Rattle.std.proofs.Common.{rules, ◌≡◌}
 use Rattle.cj_locked.proofs.Looking.{share_given, share_there}
 use Rattle.cj_locked.proofs.book.LockedBook.share.Goals as goal
 
