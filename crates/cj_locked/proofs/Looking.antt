@@ -87,6 +87,17 @@ share_right told h legal c fresh s owed few answer at n is greatest = from (cach
         let both : (answer, at) ≡ (e.answer, e.at) = cc is in
         of_entry e found.0 found.1 (sym (ap (λ (p : Answer × ℕ). p.0) both)) (sym (ap (λ (p : Answer × ℕ). p.1) both))
 
+-- the same by what is given of the book, and by the share
+pub share_there : (told : Bool) (given inside : BookState) → given ≡ inside → IsLegal inside.history → IsFreshCache told (log inside.history) inside.cache → (s : Select) (owed : ℕ) → owed ≤ length (log given.history) → (answer : Answer) (at n : ℕ)
+    → Some (answer, at) ≡ option_map kept_pair (cached_entry s inside.cache.entries) → n ≡ max owed at
+    → (owed ≤ n) × (n ≤ length (log given.history)) × IsAnswer answer × (told ≡ true → Rows answer ≡ ask (database_after (log given.history) n) 0 s)
+share_there told given inside same legal fresh s owed few answer at n is greatest =
+    subst (λ (x : BookState). (owed ≤ n) × (n ≤ length (log x.history)) × IsAnswer answer × (told ≡ true → Rows answer ≡ ask (database_after (log x.history) n) 0 s)) (sym same)
+    (share_right told inside.history legal inside.cache fresh s owed (subst (λ (x : BookState). owed ≤ length (log x.history)) same few) answer at n is greatest)
+
+pub share_given : {X : Type 0} (parts : X → Answer × ℕ) (o : Option X) (x : X) (kept : Option (Answer × ℕ)) → option_map parts o ≡ kept → o ≡ Some x → Some (parts x) ≡ kept
+share_given parts o x kept is some = ap (option_map parts) (sym some) ∙ is
+
 -- a look-up keeps what it finds
 pub has_looked : (s : Select) (c : CacheState) → has_answer s (after_look s c) ≡ has_answer s c
 has_looked s c = sym (found s (after_look s c)) ∙ (ap is_some (kept_looked s c) ∙ found s c)
@@ -323,6 +334,12 @@ right_on told F H longer e within right on = right on ∙ ap (λ db. ask db 0 e.
 
 pub within_on : (F H : List Event) (n : ℕ) → IsPrefix F H → n ≤ length (log F) → n ≤ length (log H)
 within_on F H n longer within = let more = prefix_length (log F) (log H) (log-prefix F H longer) in omega arith
+
+-- what is right of the book as it is seen from within
+pub look_there : (told : Bool) (p : Placement) (given inside : BookState) (tx : ℕ) (select : Select) (least tried : ℕ) (r : Result Look NoMemory) → given ≡ inside → placement_at inside ≡ p
+    → IfOk r (IsLookAt told (placement_at inside) inside.history tx select least tried) → IfOk r (IsLookAt told p given.history tx select least tried)
+look_there told p given inside tx select least tried r same laid look =
+    subst (λ (x : BookState). IfOk r (IsLookAt told p x.history tx select least tried)) (sym same) (subst (λ (q : Placement). IfOk r (IsLookAt told q inside.history tx select least tried)) laid look)
 
 -- whether a query is looked up
 pub looked_up_parts : (first : Bool) (tx : ℕ) (b : Bool) → b ≡ (first && (tx == 0)) → b ≡ true → (first ≡ true) × (tx ≡ 0)

@@ -24,7 +24,8 @@ returns-clause-untouched g c =
 pub returns-clause-kept : goal.returns-clause-kept
 returns-clause-kept g c = λ is.
     let same : c.args.self.now.book.state ≡ c.self.inside.book.state = search rules in
-    ap (λ (x : BookState). x.cache) (c.keep.ensures.kept is) ∙ ap (λ (x : BookState). after_keep c.args.answered x.cache) (sym same)
+    let now : c.keep.new.self.state.cache ≡ after_keep c.args.answered c.self.inside.book.state.cache = ap (λ (x : BookState). x.cache) (c.keep.ensures.kept is) in
+    now ∙ ap (λ (x : BookState). after_keep c.args.answered x.cache) (sym same)
 
 pub returns-clause-dropped : goal.returns-clause-dropped
 returns-clause-dropped g c = λ no.
