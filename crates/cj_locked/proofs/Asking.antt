@@ -11,7 +11,7 @@ use Rattle.cj_cluster.specs.Proving.Invariants.{HoldsPart}
 use Rattle.cj_cluster.proofs.Pushed.{log-prefix, prefix_length, prefix_self}
 use Rattle.cj_board.specs.declared.view.SeatView.{SeatView}
 use Rattle.cj_board.specs.Points.{max_word}
-use Rattle.cj_board.specs.Steps.{after_join, longer_of, one_fault_more}
+use Rattle.cj_board.specs.Steps.{after_join, one_fault_more}
 use Rattle.cj_board.specs.Views.{pass_without_tokens}
 use Rattle.cj_replica.specs.declared.replica.CellError.{CellError}
 use Rattle.cj_replica.specs.declared.replica.CellError.TheVariants.{Failed, Starved}
@@ -43,15 +43,14 @@ module _ (seated tells : Bool) (p : Placement) (s : CellState) (x y : SeatedCell
   its_part n there db is =
       let stands : x.state.position ≡ Some n = ap (λ (z : CellState). z.position) state ∙ there in
       let within : n ≤ length (log x.view.front) = subst (λ (o : Option ℕ). IfSome o (λ q. q ≤ length (log x.view.front))) stands sits.within in
-      let more : length (log x.view.front) ≤ length (log w.front) = prefix_length (log x.view.front) (log w.front) begins in
-      (
+      let more : length (log x.view.front) ≤ length (log w.front) = prefix_length (log x.view.front) (log w.front) begins in (
         subst (λ (q : Result (List Slot) CellError). IfOk q IsStorable) is gives.storable,
         omega (arith, within, more),
         λ on.
             let at : IsLoggedPart s.placement s.b (log x.view.front) s.position r = subst (λ (z : CellState). IsLoggedPart z.placement z.b (log x.view.front) z.position r) state (logged on) in
             let here : IsLoggedPart p s.b (log x.view.front) (Some n) (Ok db) =
-                subst (λ (q : Result (List Slot) CellError). IsLoggedPart p s.b (log x.view.front) (Some n) q) is
-                (subst (λ (o : Option ℕ). IsLoggedPart p s.b (log x.view.front) o r) there (subst (λ (l : Placement). IsLoggedPart l s.b (log x.view.front) s.position r) placed at))
+            subst (λ (q : Result (List Slot) CellError). IsLoggedPart p s.b (log x.view.front) (Some n) q) is
+            (subst (λ (o : Option ℕ). IsLoggedPart p s.b (log x.view.front) o r) there (subst (λ (l : Placement). IsLoggedPart l s.b (log x.view.front) s.position r) placed at))
             in
             part_longer (log x.view.front) (log w.front) begins p s.b (Some n) (Ok db) within here,
       )
@@ -87,6 +86,18 @@ pub stands_noted : (q : Option ℕ) (b its : ℕ) (v : SeatView) → its ≡ b �
 stands_noted None b its v same noted = tt
 stands_noted (Some n) b its v same noted = subst (λ k. Contains v.position_notes (k, n)) (sym same) (noted n refl)
 
+-- a cell that was told a history with no entry open and with its backend enabled stands at the log's end, if that
+-- is still the end of what was seen then
+pub stands_at_end : (x : SeatedCell) (s : CellState) (m G : List Event) (n : ℕ) → StandsWhereEnabled x → x.state ≡ s → IsPrefix m x.view.front → IsPrefix x.view.front G
+    → is_free m ≡ true → is_enabled m s.b ≡ true → length (log m) ≡ n → length (log G) ≡ n → s.position ≡ Some n
+stands_at_end x s m G n stands state told seen free enabled before after =
+    ⊎_elim
+    (λ (at : x.state.position ≡ Some (length (log m))). sym (ap (λ (z : CellState). z.position) state) ∙ (at ∙ ap Some before))
+    (λ (longer : length (log m) < length (log x.view.front)).
+    let within : length (log x.view.front) ≤ length (log G) = prefix_length (log x.view.front) (log G) (log-prefix x.view.front G seen) in
+    absurd (omega (arith, longer, within, before, after)))
+    (stands m told free (subst (λ b. is_enabled m b ≡ true) (sym (ap (λ (z : CellState). z.b) state)) enabled))
+
 -- ---- taken apart
 
 -- a seat that has seen a beginning of what a pass has sees the same after it was told
@@ -100,12 +111,12 @@ pub held_at : (tells : Bool) (p : Placement) (s : CellState) (x : SeatedCell) (m
 held_at tells p s x m sits stands state placed front on free enabled =
     ⊎_elim
     (λ (at : x.state.position ≡ Some (length (log m))).
-        let held : x.state.told ≡ Some (part x.state.placement x.state.b (database_after (log x.view.front) (length (log m)))) =
-            subst (λ (q : Option ℕ). HoldsPart tells x.state.placement x.state.b (log x.view.front) x.state.told q) at sits.holds on
-        in
-        held
-        ∙ (ap (λ (z : CellState). Some (part z.placement z.b (database_after (log x.view.front) (length (log m))))) state
-        ∙ (ap (λ (l : Placement). Some (part l s.b (database_after (log x.view.front) (length (log m))))) placed
-        ∙ ap (λ (h : List Event). Some (part p s.b (database_after (log h) (length (log m))))) front)))
+    let held : x.state.told ≡ Some (part x.state.placement x.state.b (database_after (log x.view.front) (length (log m)))) =
+    subst (λ (q : Option ℕ). HoldsPart tells x.state.placement x.state.b (log x.view.front) x.state.told q) at sits.holds on
+    in
+    held
+    ∙ (ap (λ (z : CellState). Some (part z.placement z.b (database_after (log x.view.front) (length (log m))))) state
+    ∙ (ap (λ (l : Placement). Some (part l s.b (database_after (log x.view.front) (length (log m))))) placed
+    ∙ ap (λ (h : List Event). Some (part p s.b (database_after (log h) (length (log m))))) front)))
     (λ (longer : length (log m) < length (log x.view.front)). let same : length (log x.view.front) ≡ length (log m) = ap (λ (h : List Event). length (log h)) front in absurd (omega (arith, longer, same)))
     (stands m (subst (IsPrefix m) (sym front) (prefix_self m)) free (subst (λ b. is_enabled m b ≡ true) (sym (ap (λ (z : CellState). z.b) state)) enabled))

@@ -1,5 +1,5 @@
 -- A failure of a backend in a query, at a book.
-use Rattle.std.proofs.Common.{◌≡◌, ◌≢◌, ℕ, ◌+◌, ◌*◌, ◌^◌, ◌<◌, ◌&&◌, Bool, true, false, cond, List, [], ◌∷◌, ◌++◌, length, Option, None, Some, Result, Ok, Err, IfErr, IfSome, OnErr, refl, ap, sym, ◌∙◌, subst, arith}
+use Rattle.std.proofs.Common.{◌≡◌, ◌≢◌, ℕ, ◌+◌, ◌*◌, ◌^◌, ◌<◌, Bool, true, List, [], ◌∷◌, ◌++◌, Option, None, Some, Result, Err, IfErr, IfSome, OnErr, refl, ap, sym, ◌∙◌, subst, arith}
 use mathlib.Core.List.{IsPrefix}
 use Rattle.std.proofs.lemmas.Bool.{and_parts}
 use Rattle.cj_model.specs.declared.request.Entry.{Entry}
@@ -9,10 +9,10 @@ use Rattle.cj_model.specs.Cluster.Balancing.{one_less}
 use Rattle.cj_model.specs.Cluster.Caching.{CacheState}
 use Rattle.cj_model.specs.Cluster.Masks.{in_mask}
 use Rattle.cj_model.specs.Cluster.Placements.{Placement, hosts_all}
-use Rattle.cj_model.proofs.Masks.{has-zero, some_bit}
+use Rattle.cj_model.proofs.Masks.{some_bit}
 use Rattle.cj_cluster.specs.declared.event.Event.{Event}
 use Rattle.cj_cluster.specs.declared.event.Event.TheVariants.{ReadFailed}
-use Rattle.cj_cluster.specs.History.Answering.{HasNoServer, HasServer}
+use Rattle.cj_cluster.specs.History.Answering.{HasServer}
 use Rattle.cj_cluster.specs.History.Freshness.{IsFreshCache}
 use Rattle.cj_cluster.specs.History.Histories.{events_left, is_enabled, is_free, log}
 use Rattle.cj_cluster.proofs.Pushed.{free-same, log-same, prefix_self}
@@ -22,7 +22,7 @@ use Rattle.cj_board.specs.Steps.{after_learning, after_split}
 use Rattle.cj_board.specs.Views.{next_session, pass_of}
 use Rattle.cj_board.proofs.FaultPoint.{tokens-append}
 use Rattle.cj_book.specs.BookLogs.{BookLogState, LogFollows}
-use Rattle.cj_book.specs.Books.{is_candidate, placement_at, with_event, BookState, IsFull}
+use Rattle.cj_book.specs.Books.{is_candidate, placement_at, BookState, IsFull}
 use Rattle.cj_book.specs.Events.{AppendsEvent}
 use Rattle.cj_book.specs.Seated.{GivesOwnPassesOnly, SeatedBook}
 use Rattle.cj_book.specs.declared.error.BookError.{BookError}
@@ -39,22 +39,12 @@ use Rattle.cj_locked.proofs.Turns.{turn_events_push}
 
 -- ---- where there is no room
 
-module _ (b : BookState) (select : Select) (mask : ℕ) (are : (k : ℕ) → in_mask mask k ≡ is_candidate b select.tables k) where
-  -- the mask of those who serve the query is empty
-  pub serves_none : mask ≡ 0 → HasNoServer (placement_at b) b.history (request.Select select)
-  serves_none none = (
-    refl,
-    λ k on.
-        let off : (is_enabled b.history k && hosts_all (placement_at b) k select.tables) ≡ false = sym (are k) ∙ (ap (λ m. in_mask m k) none ∙ has-zero k) in
-        sym (ap (λ t. t && hosts_all (placement_at b) k select.tables) on) ∙ off,
-  )
-
-  -- or it isn't
-  pub serves_some : mask ≢ 0 → mask < 2 ^ 16 → HasServer (placement_at b) b.history (request.Select select)
-  serves_some some below = λ needed.
-      let fits : mask < 4294967296 = omega arith in
-      let bit = some_bit mask some fits in
-      (bit.0, and_parts (is_enabled b.history bit.0) (hosts_all (placement_at b) bit.0 select.tables) (sym (are bit.0) ∙ bit.2))
+-- the mask of those who serve the query isn't empty
+pub serves_some : (b : BookState) (select : Select) (mask : ℕ) → ((k : ℕ) → in_mask mask k ≡ is_candidate b select.tables k) → mask ≢ 0 → mask < 2 ^ 16 → HasServer (placement_at b) b.history (request.Select select)
+serves_some b select mask are some below = λ needed.
+    let fits : mask < 4294967296 = omega arith in
+    let bit = some_bit mask some fits in
+    (bit.0, and_parts (is_enabled b.history bit.0) (hosts_all (placement_at b) bit.0 select.tables) (sym (are bit.0) ∙ bit.2))
 
 -- the event did not come
 pub no_room : {T : Type 0} (old new : BookState) (x : Event) (r : Result T BookError) (error : BookError) → AppendsEvent old x r new → r ≡ Err error → (events_left old.history < 1) × (new ≡ old)

@@ -150,7 +150,7 @@ impl<J: Naming, B: Backend> LockedCell<J, B> {
     /// pass has heard of it then.
     ///
     /// `Failed` counts a fault. A cell that is of another backend, or stands elsewhere, answers that it ran out of
-    /// memory. While the turn is held at a log of `n` entries no enabled one does.
+    /// memory. An enabled one stands at position `n` while the log has `n` entries, none of them open.
     pub fn contents(
         &mut self,
         board: &NamedBoard<J>,
@@ -162,6 +162,9 @@ impl<J: Naming, B: Backend> LockedCell<J, B> {
         ensures legal { IsLegal (front pass.new.seat) }
         ensures gives { GivesPart B.tells (placement_of J.layout) b n (pass_view pass.old.seat) (pass_view pass.new.seat) result }
         ensures asked { (self.old.cell.state.b ≡ b) × (self.old.cell.state.position ≡ Some n) → GivesContents self.old.cell.state result self.new.cell.state }
+        ensures other { self.old.cell.state.b ≢ b → (result ≡ Err CellError.Starved) × (self.new.cell.state ≡ self.old.cell.state) }
+        ensures elsewhere { self.old.cell.state.position ≢ Some n → (result ≡ Err CellError.Starved) × (self.new.cell.state ≡ self.old.cell.state) }
+        ensures stands { self.old.cell.state.b ≡ b → is_free (front pass.old.seat) ≡ true → is_enabled (front pass.old.seat) b ≡ true → length (log (front pass.old.seat)) ≡ n → length (log (front pass.new.seat)) ≡ n → self.old.cell.state.position ≡ Some n }
     {
         if self.cell.number() != b {
             self.cell.report(&board.board, &mut pass.seat);
@@ -170,6 +173,7 @@ impl<J: Naming, B: Backend> LockedCell<J, B> {
         match self.cell.position() {
             Some(position) if position == n => self.contents_there(board, pass),
             _ => {
+                self.cell.brief(&board.board, &mut pass.seat);
                 self.cell.report(&board.board, &mut pass.seat);
                 Err(CellError::Starved)
             }
@@ -177,11 +181,7 @@ impl<J: Naming, B: Backend> LockedCell<J, B> {
     }
 
     /// Asks the backend for all that it holds, where it stands.
-    fn contents_there(
-        &mut self,
-        board: &NamedBoard<J>,
-        pass: &mut Pass<J>,
-    ) -> Result<Db, CellError>
+    fn contents_there(&mut self, board: &NamedBoard<J>, pass: &mut Pass<J>) -> Result<Db, CellError>
         ensures more { HasNotedMore (pass_view pass.old.seat) (pass_view pass.new.seat) }
         ensures legal { IsLegal (front pass.new.seat) }
         ensures gives { (n : ℕ) → self.old.cell.state.position ≡ Some n → GivesPart B.tells (placement_of J.layout) self.old.cell.state.b n (pass_view pass.old.seat) (pass_view pass.new.seat) result }
@@ -231,6 +231,8 @@ impl<J: Naming, B: Backend> LockedCell<J, B> {
     /// history and the backend is enabled there, it holds its part of the database at the end of the log.
     pub fn into_backend_at(self, board: &NamedBoard<J>, pass: &mut Pass<J>) -> B
         requires seen { IsPrefix self.cell.view.front (front pass.old.seat) }
+        ensures told { B.told result ≡ self.cell.state.told }
+        ensures login { B.login result ≡ self.cell.state.login }
         ensures same { pass_view pass.new.seat ≡ pass_view pass.old.seat }
         ensures held { B.tells ≡ true → is_free (front pass.old.seat) ≡ true → is_enabled (front pass.old.seat) self.cell.state.b ≡ true → B.told result ≡ Some (part (placement_of J.layout) self.cell.state.b (database_after (log (front pass.old.seat)) (length (log (front pass.old.seat))))) }
     {

@@ -9,5 +9,5 @@ returns-else-serving-eq0 c = λ s q b. (
   c.events.ensures,
   refl,
   serves_some c.args.book.now.state c.args.select.now c.candidates-serving.result
-  (λ k. c.candidates-serving.ensures.hosts k ∙ ap (λ (tables : List (List ℕ)). is_candidate c.args.book.now.state tables k) c.as_slice.ensures) c.if-serving-eq0.false c.candidates-serving.ensures.below,
+      (λ k. c.candidates-serving.ensures.hosts k ∙ ap (λ (tables : List (List ℕ)). is_candidate c.args.book.now.state tables k) c.as_slice.ensures) c.if-serving-eq0.false c.candidates-serving.ensures.below,
 )

@@ -1,4 +1,4 @@
-use Rattle.std.proofs.Common.{rules, ◌≡◌, List, length, ap, sym, ◌∙◌, subst}
+use Rattle.std.proofs.Common.{rules, List, length, ap, sym, ◌∙◌, subst}
 use Rattle.cj_cluster.specs.declared.event.Event.{Event}
 use Rattle.cj_cluster.specs.History.Freshness.{IsFreshCache}
 use Rattle.cj_cluster.specs.History.Histories.{is_enabled, log}
