@@ -1,10 +1,11 @@
 -- What the parts of a world that has started give, and cells and backends in a row.
-use Rattle.std.proofs.Common.{◌≡◌, ℕ, ◌+◌, ◌<◌, ◌≤◌, Bool, true, cond, suc, List, [], ◌∷◌, ◌++◌, All, length, map, get_or, refl, ap, sym, ◌∙◌, subst, arith, length-append}
+use Rattle.std.proofs.Common.{◌≡◌, inl, ℕ, ◌+◌, ◌<◌, ◌≤◌, Bool, true, cond, suc, List, [], ◌∷◌, ◌++◌, All, length, map, get_or, refl, ap, sym, ◌∙◌, subst, arith, length-append}
 use Rattle.std.proofs.lemmas.List.{get_or-map, length-map}
 use Rattle.std.proofs.lemmas.List.Elements.{All-from_get_or, All-nil}
 use Rattle.std.proofs.lemmas.List.Sums.{sum_by-append, sum_by-cons}
 use Rattle.atomic_table.specs.Seated.{TableId}
 use Rattle.cj_auth.specs.Admission.{Register}
+use Rattle.cj_board.specs.Counting.{session_after}
 use Rattle.cj_book.specs.BookLogs.{BookLogState}
 use Rattle.cj_book.specs.Seated.{GivesOwnPassesOnly, SeatedBook}
 use Rattle.cj_cluster.specs.declared.event.Event.{Event}
@@ -22,6 +23,7 @@ use Rattle.cj_replica.specs.Cells.{CellState}
 use Rattle.cj_replica.specs.Seated.{SeatedCell}
 use Rattle.cj_start.specs.Started.{with_abort, AbortsEach}
 use Rattle.cj_state.specs.Seats.{states_of}
+use Rattle.cj_locked.specs.Locked.{LastIsNoted}
 use Rattle.cj_locked.specs.Turns.{needs_turn, turn_events_of}
 use Rattle.cj_control.specs.Starting.{AreOfStarted, FallTo, HoldFrom}
 
@@ -82,6 +84,13 @@ module _ {S : Type 0} (tells logged : Bool) (count : S → ℕ) (id pass : Table
 
   pub started_gives : GivesOwnPassesOnly b
   started_gives = of.apart.gives of.numbers
+
+  -- no session was given an own pass that the history has not
+  pub started_noted : LastIsNoted b.view
+  started_noted =
+      let same : session_after 0 b.view.front ≡ session_after b.view.last_given b.view.front = ap (session_after 0) (of.apart.front ∙ of.apart.book.history) ∙ (sym of.numbers ∙ (sym (ap (λ n. n + 1) of.apart.book.greatest) ∙ started_gives)) in
+      let low : b.view.last_given < session_after 0 b.view.front = omega (arith, same) in
+      record { known = inl low }
 
   pub started_fresh : IsFreshCache tells (log b.state.history) b.state.cache
   started_fresh = rw (of.apart.book.history, of.apart.book.cache) of.fresh
