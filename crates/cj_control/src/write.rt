@@ -1,6 +1,7 @@
 //! The way of an entry: the turn, the book, the log, the book again, each cell, and the book once more.
 
 ghost use Rattle.std.specs.Prelude.{◌≡◌, ℕ, ◌<◌, ◌≤◌, length, IfErr, IfOk, false, is_none};
+ghost use Rattle.cj_model.specs.declared.limits.TheConstants.{BACKEND_LIMIT};
 ghost use Rattle.cj_model.specs.Cluster.Masks.{in_mask};
 ghost use Rattle.cj_cluster.specs.History.Histories.{is_enabled, log};
 ghost use Rattle.cj_cluster.specs.History.Legality.{IsFitEntry, IsLegal, IsSessionEntry};
@@ -130,6 +131,7 @@ impl<J: Naming, B: Backend, S: Store + Drop> Control<J, B, S> {
         tally: &mut Tally,
     )
         requires backend { b < length self.now.placement.names }
+        requires few { b < BACKEND_LIMIT }
         requires scheduled { IsScheduledIn (placement_of J.layout) (front pass.old.seat) n e.now }
         requires legal { IsLegal (front pass.old.seat) }
         requires tallied { HasTallied B.tells (placement_of J.layout) n e.now (pass_view pass.old.seat) tally.old }

@@ -3,7 +3,7 @@ use Rattle.cj_cluster.specs.History.Legality.{IsLegal}
 use Rattle.cj_place.specs.Layouts.{placement_of}
 use Rattle.cj_locked.specs.Passes.{HasNotedMore}
 use Rattle.cj_locked.specs.Taking.{HasTallied}
-use Rattle.cj_control.proofs.write.Control.take_everywhere.Given as goal
+use Rattle.cj_control.proofs.control.Control.take_everywhere.Given as goal
 
 abbrev pub invariant-loop-b : goal.invariant-loop-b
 invariant-loop-b g l =

@@ -3,7 +3,7 @@ use Rattle.cj_place.specs.Layouts.{placement_of}
 use Rattle.cj_locked.proofs.Ending.{scheduled_on}
 use Rattle.cj_locked.proofs.Passes.{noted_self, noted_then}
 use Rattle.cj_locked.proofs.Tallying.{tallied_none}
-use Rattle.cj_control.proofs.write.Control.take_everywhere.Goals as goal
+use Rattle.cj_control.proofs.control.Control.take_everywhere.Goals as goal
 
 pub take_at-requires-clause-scheduled : goal.take_at-requires-clause-scheduled
 take_at-requires-clause-scheduled g c = scheduled_on (placement_of g.J.Naming.layout) (front c.args.pass.now.seat) c.args.n c.args.e.now c.requires.scheduled (front c.loop-b.pass.seat) c.loop-b.invariant.more.seen.front
