@@ -68,8 +68,7 @@ share_right told h legal c fresh s owed few answer at n is greatest = from (cach
     of_entry e select right same there =
         let within : e.at ≤ length (log h) = right.within in
         let low : e.at ≤ n = omega (arith, greatest, there) in
-        let high : n ≤ length (log h) = omega (arith, greatest, there, within, few) in
-        (
+        let high : n ≤ length (log h) = omega (arith, greatest, there, within, few) in (
           omega (arith, greatest),
           high,
           subst IsAnswer same right.possible,
