@@ -1,5 +1,5 @@
 -- The cache of a book stays fresh along its log, and over what a query leaves.
-use Rattle.std.proofs.Common.{◌≡◌, ◌≢◌, ◌↔◌, ℕ, ◌≤◌, Bool, true, false, List, [], ◌∷◌, ◌++◌, length, Option, None, Some, IfSome, IfOk, Result, Ok, Err, refl, ap, sym, ◌∙◌, subst}
+use Rattle.std.proofs.Common.{◌≡◌, ◌≢◌, ◌↔◌, ℕ, ◌≤◌, Bool, true, false, List, length, Option, None, Some, IfSome, IfOk, Result, Ok, Err, refl, ap, sym, ◌∙◌, subst}
 use Rattle.atomic_table.specs.Seated.{TableId}
 use Rattle.cj_model.specs.declared.answer.Asked.TheVariants.{Rows}
 use Rattle.cj_model.specs.declared.cached.Cached.{Cached}

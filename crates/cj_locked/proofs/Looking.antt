@@ -1,5 +1,5 @@
 -- What a look at the book gives a query.
-use Rattle.std.proofs.Common.{◌≡◌, ◌≢◌, ℕ, ◌+◌, ◌<◌, ◌≤◌, ◌^◌, ◌==◌, ◌&&◌, not, cond, max, Bool, true, false, List, [], ◌∷◌, length, Option, None, Some, option_map, IfSome, IfOk, Result, Ok, Err, refl, ap, sym, ◌∙◌, subst, arith, ⊎_elim}
+use Rattle.std.proofs.Common.{◌≡◌, ◌≢◌, ℕ, ◌<◌, ◌≤◌, ◌^◌, ◌==◌, ◌&&◌, not, cond, max, Bool, true, false, List, [], ◌∷◌, length, Option, None, Some, option_map, IfSome, IfOk, Result, Ok, Err, refl, ap, sym, ◌∙◌, subst, arith, ⊎_elim}
 use Rattle.std.specs.Prelude.{is_some, All}
 use mathlib.Core.List.{IsPrefix}
 use Rattle.std.proofs.lemmas.Bool.{and_parts, both_ways, cases_Bool, eq-eqb, eqb-true, not-true}
@@ -9,7 +9,6 @@ use Rattle.cj_model.specs.declared.answer.Asked.TheVariants.{Rows}
 use Rattle.cj_model.specs.declared.cached.Cached.{Cached}
 use Rattle.cj_model.specs.declared.memory.NoMemory.{NoMemory}
 use Rattle.cj_model.specs.declared.limits.TheConstants.{BACKEND_LIMIT}
-use Rattle.cj_model.specs.declared.request.Entry.{Entry}
 use Rattle.cj_model.specs.declared.request.Request.TheVariants as request
 use Rattle.cj_model.specs.declared.select.Select.{Select}
 use Rattle.cj_model.specs.Cluster.Balancing.{Balance}
@@ -34,7 +33,7 @@ use Rattle.cj_book.specs.Books.{is_candidate, placement_at, BookState, PicksOf}
 use Rattle.cj_book.proofs.Serving.{mask_below, picked_below, served_by_some}
 use Rattle.cj_locked.specs.declared.look.Look.{Look}
 use Rattle.cj_locked.specs.declared.look.Look.TheVariants.{Kept, Ask, Tried, Unserved}
-use Rattle.cj_locked.specs.Looking.{with_look, GivesKept, IsLookAt, IsLookUpOf, IsOfKept, IsOwedAt, IsPickOf, IsRightAt, IsServing, LooksAt, LooksUp, PicksFor}
+use Rattle.cj_locked.specs.Looking.{with_look, GivesKept, IsLookAt, IsLookUpOf, IsOfKept, IsOwedAt, IsPickOf, IsServing, LooksAt, LooksUp, PicksFor}
 
 -- ---- a kept answer
 
@@ -69,8 +68,7 @@ share_right told h legal c fresh s owed few answer at n is greatest = from (cach
     of_entry e select right same there =
         let within : e.at ≤ length (log h) = right.within in
         let low : e.at ≤ n = omega (arith, greatest, there) in
-        let high : n ≤ length (log h) = omega (arith, greatest, there, within, few) in
-        (
+        let high : n ≤ length (log h) = omega (arith, greatest, there, within, few) in (
           omega (arith, greatest),
           high,
           subst IsAnswer same right.possible,
@@ -335,11 +333,9 @@ right_on told F H longer e within right on = right on ∙ ap (λ db. ask db 0 e.
 pub within_on : (F H : List Event) (n : ℕ) → IsPrefix F H → n ≤ length (log F) → n ≤ length (log H)
 within_on F H n longer within = let more = prefix_length (log F) (log H) (log-prefix F H longer) in omega arith
 
--- what is right of the book as it is seen from within
-pub look_there : (told : Bool) (p : Placement) (given inside : BookState) (tx : ℕ) (select : Select) (least tried : ℕ) (r : Result Look NoMemory) → given ≡ inside → placement_at inside ≡ p
-    → IfOk r (IsLookAt told (placement_at inside) inside.history tx select least tried) → IfOk r (IsLookAt told p given.history tx select least tried)
-look_there told p given inside tx select least tried r same laid look =
-    subst (λ (x : BookState). IfOk r (IsLookAt told p x.history tx select least tried)) (sym same) (subst (λ (q : Placement). IfOk r (IsLookAt told q inside.history tx select least tried)) laid look)
+-- what is right at the book's placement, by the layout that is named
+pub look_laid : (told : Bool) (p q : Placement) (h : List Event) (tx : ℕ) (select : Select) (least tried : ℕ) (r : Result Look NoMemory) → p ≡ q → IfOk r (IsLookAt told p h tx select least tried) → IfOk r (IsLookAt told q h tx select least tried)
+look_laid told p q h tx select least tried r laid look = subst (λ (x : Placement). IfOk r (IsLookAt told x h tx select least tried)) laid look
 
 -- whether a query is looked up
 pub looked_up_parts : (first : Bool) (tx : ℕ) (b : Bool) → b ≡ (first && (tx == 0)) → b ≡ true → (first ≡ true) × (tx ≡ 0)

@@ -1,6 +1,6 @@
 //! How a query looks at the book: who may answer it, and what becomes of the answer.
 
-ghost use Rattle.std.specs.Prelude.{ℕ, ◌≡◌, ◌≢◌, ◌↔◌, ◌==◌, ◌&&◌, ◌^◌, ◌<◌, ◌≤◌, true, false, length, IfOk, None, Ok};
+ghost use Rattle.std.specs.Prelude.{◌≡◌, ◌≢◌, ◌↔◌, ◌==◌, ◌&&◌, ◌^◌, ◌<◌, ◌≤◌, true, false, length, IfOk, None, Ok};
 ghost use Rattle.cj_model.specs.declared.answer.Asked.TheVariants.{Rows};
 ghost use Rattle.cj_model.specs.Cluster.Balancing.{one_less};
 ghost use Rattle.cj_model.specs.Cluster.Caching.{after_keep, has_answer};
