@@ -12,8 +12,8 @@ use Rattle.cj_cluster.specs.History.Freshness.{IsFreshCache}
 use Rattle.cj_cluster.specs.History.Histories.{is_free, log, scheduled_entry}
 use Rattle.cj_board.specs.declared.view.SeatView.{SeatView}
 use Rattle.cj_board.specs.Counting.{greatest_of, log_failure_session, log_failure_sessions, session_after, sessions_in}
-use Rattle.cj_board.specs.Steps.{after_append, after_closing, after_count, after_join, after_learning, after_split}
-use Rattle.cj_board.specs.Views.{next_session, pass_without_tokens}
+use Rattle.cj_board.specs.Steps.{after_append, after_count, after_join, after_learning, after_split}
+use Rattle.cj_board.specs.Views.{next_session, pass_of, pass_without_tokens}
 use Rattle.cj_place.specs.Layouts.{Layout}
 use Rattle.cj_book.specs.BookLogs.{BookLogState, LogFollows}
 use Rattle.cj_book.specs.Seated.{knows_counted, own_book_after, own_opened, told_book, view_after, GivesOwnPassesOnly, SeatedBook}
@@ -62,9 +62,14 @@ keeps_then u v w p q =
 pub keeps_learning : (v u w : SeatView) → w ≡ after_learning v u → KeepsNoted v w
 keeps_learning v u w is = subst (KeepsNoted v) (sym is) (record { last = refl; notes = λ note there. Contains-append_left v.count_notes u.count_notes note there; seen = omega arith })
 
--- it took an own pass back
-pub keeps_closing : (v u w : SeatView) → w ≡ after_closing v u → KeepsNoted v w
-keeps_closing v u w is = subst (KeepsNoted v) (sym is) (record { last = refl; notes = λ note there. Contains-append_left v.count_notes u.count_notes note there; seen = omega arith })
+-- it took an own pass back, say
+pub keeps_more : (v w : SeatView) (more : List (ℕ × ℕ)) → w.last_given ≡ v.last_given → w.front ≡ v.front → w.count_notes ≡ v.count_notes ++ more → KeepsNoted v w
+keeps_more v w more last front notes =
+    record {
+      last = last;
+      notes = λ note there. subst (λ (xs : List (ℕ × ℕ)). Contains xs note) (sym notes) (Contains-append_left v.count_notes more note there);
+      seen = subst (λ h. session_after 0 v.front ≤ session_after 0 h) (sym front) (omega arith);
+    }
 
 keeps_append : (e : Event) (v : SeatView) → KeepsNoted v (after_append e v)
 keeps_append e v = record { last = refl; notes = λ note there. there; seen = sessions_grow v.front (e ∷ []) }
@@ -82,11 +87,11 @@ keeps_own (Some e) v u w is =
     let came = after_append e heard in
     let told = told_book came (after_split (after_count u)) in
     subst (KeepsNoted v) (sym is)
-    (keeps_then v heard told (keeps_learning v _ heard refl) (keeps_then heard came told (keeps_append e heard) (keeps_learning came _ told refl)))
+    (keeps_then v heard told (keeps_learning v (pass_of (after_count u)) heard refl) (keeps_then heard came told (keeps_append e heard) (keeps_learning came (pass_without_tokens (after_split (after_count u))) told refl)))
 
 -- the same, where the book told the pass first
 pub keeps_own_told : (o : Option Event) (v u t w : SeatView) → w ≡ own_book_after o (told_book v u) t → KeepsNoted v w
-keeps_own_told o v u t w is = keeps_then v (told_book v u) w (keeps_learning v _ (told_book v u) refl) (keeps_own o (told_book v u) t w is)
+keeps_own_told o v u t w is = keeps_then v (told_book v u) w (keeps_learning v (pass_without_tokens u) (told_book v u) refl) (keeps_own o (told_book v u) t w is)
 
 -- ---- what stays
 

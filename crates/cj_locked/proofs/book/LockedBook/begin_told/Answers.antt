@@ -2,7 +2,8 @@ use Rattle.std.proofs.Common.{rules, ◌≡◌, ◌+◌, List, Some, ap, sym, �
 use Rattle.cj_cluster.specs.declared.event.Event.{Event}
 use Rattle.cj_cluster.specs.History.Histories.{log}
 use Rattle.cj_cluster.specs.History.Legality.{IsFitEntry}
-use Rattle.cj_board.specs.Seats.{front}
+use Rattle.cj_board.specs.Seats.{front, pass_view}
+use Rattle.cj_board.specs.Views.{pass_without_tokens}
 use Rattle.cj_place.specs.Layouts.{placement_of}
 use Rattle.cj_book.specs.BookLogs.{BookLogState, LogFollows}
 use Rattle.cj_book.specs.Books.{placement_at, BookState}
@@ -21,7 +22,7 @@ invariant_of-self g c = record {
   counted = search rules;
   vacant = search rules;
   fresh = search rules;
-  noted = still_noted c.self.inside.book.view c.begin_own.new.self.view (keeps_learning c.self.inside.book.view _ c.begin_own.new.self.view c.begin_own.ensures.seat) c.self.invariant.noted;
+  noted = still_noted c.self.inside.book.view c.begin_own.new.self.view (keeps_learning c.self.inside.book.view (pass_without_tokens (pass_view c.args.pass.now.seat)) c.begin_own.new.self.view c.begin_own.ensures.seat) c.self.invariant.noted;
 }
 
 pub invariant_of-self-in-Err : goal.invariant_of-self-in-Err
@@ -32,7 +33,7 @@ invariant_of-self-in-Err g c = record {
   counted = search rules;
   vacant = search rules;
   fresh = search rules;
-  noted = still_noted c.self.inside.book.view c.begin_own.new.self.view (keeps_learning c.self.inside.book.view _ c.begin_own.new.self.view c.begin_own.ensures.seat) c.self.invariant.noted;
+  noted = still_noted c.self.inside.book.view c.begin_own.new.self.view (keeps_learning c.self.inside.book.view (pass_without_tokens (pass_view c.args.pass.now.seat)) c.begin_own.new.self.view c.begin_own.ensures.seat) c.self.invariant.noted;
 }
 
 pub returns-in-Ok-clause-ok : goal.returns-in-Ok-clause-ok

@@ -1,8 +1,9 @@
-use Rattle.std.proofs.Common.{◌≡◌, ◌+◌, ℕ, ◌++◌, ◌∷◌, [], List, None, true, refl, ap, sym, ◌∙◌, subst}
+use Rattle.std.proofs.Common.{◌≡◌, ◌+◌, ℕ, ◌++◌, ◌∷◌, [], List, None, Some, true, refl, ap, sym, ◌∙◌, subst}
 use Rattle.cj_cluster.specs.declared.event.Event.{Event}
 use Rattle.cj_cluster.specs.declared.event.Event.TheVariants.{Ended}
 use Rattle.cj_cluster.specs.History.Histories.{is_free, open_entry_of}
 use Rattle.cj_board.specs.Seats.{front, pass_view}
+use Rattle.cj_board.specs.Views.{pass_of, pass_without_tokens}
 use Rattle.cj_place.specs.Layouts.{placement_of}
 use Rattle.cj_book.specs.BookLogs.{BookLogState, LogFollows}
 use Rattle.cj_model.specs.Cluster.Masks.{in_mask}
@@ -60,9 +61,9 @@ invariant_of-self g c =
       };
       fresh = fresh_event g.J.Naming.tells c.learn.new.self.state c.tell.new.self.state (Ended c.settled-tally.result.failed c.settled-tally.result.starved) refl (c.tell.ensures.state ∙ c.end.ensures.state)
           (fresh_same g.J.Naming.tells c.self.inside.book.state c.learn.new.self.state c.learn.ensures.state c.self.invariant.fresh);
-      noted = still_noted c.end.new.self.view c.tell.new.self.view (keeps_learning c.end.new.self.view _ c.tell.new.self.view c.tell.ensures.book)
+      noted = still_noted c.end.new.self.view c.tell.new.self.view (keeps_learning c.end.new.self.view (pass_without_tokens (pass_view c.learn.new.p)) c.tell.new.self.view c.tell.ensures.book)
           (still_noted c.learn.new.self.view c.end.new.self.view (keeps_event (Some (Ended c.settled-tally.result.failed c.settled-tally.result.starved)) c.learn.new.self.view c.end.new.self.view c.end.ensures.seat)
-          (still_noted c.self.inside.book.view c.learn.new.self.view (keeps_learning c.self.inside.book.view _ c.learn.new.self.view c.learn.ensures.book) c.self.invariant.noted));
+          (still_noted c.self.inside.book.view c.learn.new.self.view (keeps_learning c.self.inside.book.view (pass_of (pass_view c.args.pass.now.seat)) c.learn.new.self.view c.learn.ensures.book) c.self.invariant.noted));
     }
 
 pub returns-clause-ended : goal.returns-clause-ended

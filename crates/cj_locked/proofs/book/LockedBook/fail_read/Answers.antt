@@ -2,7 +2,7 @@ use Rattle.std.proofs.Common.{rules, ◌≡◌, ap, sym, ◌∙◌, subst}
 use Rattle.cj_cluster.specs.History.Freshness.{IsFreshCache}
 use Rattle.cj_cluster.specs.History.Histories.{log}
 use Rattle.cj_board.specs.Seats.{front, pass_view}
-use Rattle.cj_board.specs.Views.{pass_without_tokens}
+use Rattle.cj_board.specs.Views.{pass_of, pass_without_tokens}
 use Rattle.cj_place.specs.Layouts.{placement_of}
 use Rattle.cj_book.specs.Books.{placement_at, BookState}
 use Rattle.cj_locked.specs.Failures.{FailsAt}
@@ -38,10 +38,10 @@ invariant_of-self g c =
       fresh = failed_fresh (placement_at learned.state) learned.state.history failed.state.history c.args.session c.args.seq c.args.b c.args.select.now c.fail_now-failure.result at g.J.Naming.tells learned.state.cache last.state.cache last.state.history history
           (ap (λ (x : BookState). x.cache) now ∙ ap (λ (x : BookState). x.cache) c.fail_now-failure.ensures.state)
           (subst (λ (x : BookState). IsFreshCache g.J.Naming.tells (log x.history) x.cache) (sym c.learn.ensures.state) c.self.invariant.fresh);
-      noted = still_noted c.ended.new.self.view last.view (keeps_learning c.ended.new.self.view _ last.view c.tell.ensures.book)
+      noted = still_noted c.ended.new.self.view last.view (keeps_learning c.ended.new.self.view (pass_without_tokens (pass_view c.learn.new.p)) last.view c.tell.ensures.book)
           (still_noted failed.view c.ended.new.self.view (keeps_same failed.view c.ended.new.self.view c.ended.ensures.seat.1)
           (c.fail_now-failure.ensures.noted
-          (still_noted old.view learned.view (keeps_learning old.view _ learned.view c.learn.ensures.book) c.self.invariant.noted)));
+          (still_noted old.view learned.view (keeps_learning old.view (pass_of (pass_view c.args.pass.now.seat)) learned.view c.learn.ensures.book) c.self.invariant.noted)));
     }
 
 pub returns-clause-fails : goal.returns-clause-fails

@@ -20,7 +20,7 @@ invariant_of-self g c = record {
   counted = c.audit.ensures.total ∙ (c.self.invariant.counted ∙ sym (same_counted c.self.inside.book c.tell.new.self c.tell.ensures.state c.tell.ensures.pending));
   vacant = search rules;
   fresh = subst (λ (x : BookState). IsFreshCache g.J.Naming.tells (log x.history) x.cache) (sym c.tell.ensures.state) c.self.invariant.fresh;
-  noted = still_noted c.self.inside.book.view c.tell.new.self.view (keeps_learning c.self.inside.book.view _ c.tell.new.self.view c.tell.ensures.book) c.self.invariant.noted;
+  noted = still_noted c.self.inside.book.view c.tell.new.self.view (keeps_learning c.self.inside.book.view (pass_without_tokens (pass_view c.args.pass.now.seat)) c.tell.new.self.view c.tell.ensures.book) c.self.invariant.noted;
 }
 
 pub returns-clause-holds : goal.returns-clause-holds

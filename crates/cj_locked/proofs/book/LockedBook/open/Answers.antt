@@ -4,7 +4,6 @@ use Rattle.cj_board.specs.declared.view.SeatView.{SeatView}
 use Rattle.cj_board.specs.Seats.{pass_view}
 use Rattle.cj_board.specs.Views.{pass_without_tokens}
 use Rattle.cj_book.specs.Books.{with_session, BookState, HasGivenAll}
-use Rattle.cj_book.specs.Seated.{SeatedBook}
 use Rattle.cj_book.specs.declared.error.OwnError.TheVariants.{SessionsFull}
 use Rattle.cj_locked.specs.Locked.{LastIsNoted}
 use Rattle.cj_locked.proofs.Noting.{keeps_learning, locked_still, noted_opened, shows_given, still_noted}
@@ -23,8 +22,8 @@ pub returns-clause-counted : goal.returns-clause-counted
 returns-clause-counted g c =
     let number : c.in_ok-session.session ≡ c.tell.new.self.state.greatest + 1 = c.in_ok-session.ensures.number in
     let some : 0 < c.in_ok-session.session = omega (arith, number) in
-    let made : pass_view c.new-pass.result.seat ≡ pass_view c.in_ok-session.seat = ap pass_view c.new-pass.ensures in
-    own_counts c.tell.new.self.view (pass_view c.new-pass.result.seat) (pass_view c.check_count.new.pass.seat) c.in_ok-session.session
+    let made : pass_view c.new-own.result.seat ≡ pass_view c.in_ok-session.seat = ap pass_view c.new-own.ensures in
+    own_counts c.tell.new.self.view (pass_view c.new-own.result.seat) (pass_view c.check_count.new.pass.seat) c.in_ok-session.session
     (made ∙ c.in_ok-session.ensures.pass.1) (ap (λ (z : SeatView). z.own_session) made ∙ c.in_ok-session.ensures.own) some c.check_count.ensures.same c.check_count.ensures.counted
 
 pub returns-clause-full : goal.returns-clause-full
@@ -43,11 +42,11 @@ returns-clause-limit g c =
 
 pub returns-clause-none : goal.returns-clause-none
 returns-clause-none g c =
-    let made : pass_view c.new-pass.result.seat ≡ pass_view c.in_ok-session.seat = ap pass_view c.new-pass.ensures in
+    let made : pass_view c.new-own.result.seat ≡ pass_view c.in_ok-session.seat = ap pass_view c.new-own.ensures in
     ap (λ (z : SeatView). z.count) (c.check_count.ensures.same ∙ (made ∙ c.in_ok-session.ensures.pass.1))
 
-pub invariant_of-self : goal.invariant_of-self
-invariant_of-self g c =
+pub invariant_of-self-2 : goal.invariant_of-self-2
+invariant_of-self-2 g c =
     let old = c.self.inside.book in
     let told = c.tell.new.self in
     let new = c.open_own.new.self in
@@ -61,22 +60,11 @@ invariant_of-self g c =
     (ap (λ (x : BookState). x.cache) (state ∙ ap with_session same)) c.open_own.ensures.still_gives
     (noted_opened told.view new.view told.state.greatest c.in_ok-session.session c.in_ok-session.ensures.seat (c.tell.ensures.still_gives c.self.invariant.gives) number within c.in_ok-session.ensures.noted)
 
-pub invariant_of-self-in_err-session : goal.invariant_of-self-in_err-session
-invariant_of-self-in_err-session g c =
-    let old = c.self.inside.book in
-    let told = c.tell.new.self in
-    let new = c.open_own.new.self in
-    let same : new ≡ told = c.in_err-session.ensures.err in
-    let state : new.state ≡ old.state = ap (λ (x : SeatedBook). x.state) same ∙ c.tell.ensures.state in
-    let noted : LastIsNoted told.view = still_noted old.view told.view (keeps_learning old.view _ told.view c.tell.ensures.book) c.self.invariant.noted in
-    locked_still g.J.Naming.board g.J.Naming.layout g.J.Naming.tells g.S.Store.tells g.S.Store.faults c.self.inside.ledger.total old new _ c.self.invariant (ap (λ (x : BookState). x.history) state) (c.open_own.ensures.pending ∙ c.tell.ensures.pending)
-    (c.open_own.ensures.board ∙ c.tell.ensures.board.0) (ap (λ (x : BookState). x.layout) state) (ap (λ (x : BookState). x.cache) state) c.open_own.ensures.still_gives (subst (λ (x : SeatedBook). LastIsNoted x.view) (sym same) noted)
-
 pub returns-in_err-session-clause-cause : goal.returns-in_err-session-clause-cause
 returns-in_err-session-clause-cause g c = λ n is.
     let old = c.self.inside.book in
     let told = c.tell.new.self in
-    let noted : LastIsNoted told.view = still_noted old.view told.view (keeps_learning old.view _ told.view c.tell.ensures.book) c.self.invariant.noted in
+    let noted : LastIsNoted told.view = still_noted old.view told.view (keeps_learning old.view (pass_without_tokens (pass_view c.args.pass.now.seat)) told.view c.tell.ensures.book) c.self.invariant.noted in
     let all : HasGivenAll told.state n = (error_again (SessionsFull n) (HasGivenAll told.state n) c.open_own.result (c.open_own.ensures.full n) c.in_err-session.field-0.0 c.in_err-session.was c.from_residual.result c.from_residual.ensures.1).0 is in
     (all.number,
     shows_given told.view (pass_view c.args.pass.now.seat) (pass_view c.tell.new.p) told.state.greatest n noted (c.tell.ensures.still_gives c.self.invariant.gives) all.last all.number c.tell.ensures.pass
