@@ -1,8 +1,11 @@
+pub mod Asking
 pub mod Beginning
 pub mod Changing
 pub mod Ending
+pub mod Failing
 pub mod Finishing
 pub mod Following
+pub mod Holding
 pub mod Marking
 pub mod Opening
 pub mod Passes

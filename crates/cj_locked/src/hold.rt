@@ -39,12 +39,24 @@ impl<J: Naming, S: Store + Drop> LockedBook<J, S> {
         ensures told { front pass.new.seat ≡ self.new.book.state.history }
         ensures state { self.new.book.state ≡ self.old.book.state }
     {
-        unreachable!()
+        self.book.legal();
+        self.book.tell(&board.board, &mut pass.seat);
+        let length = self.book.length();
+        let enabled = self.book.enabled();
+        let Some(mut turn) = self.turn.take() else {
+            unreachable!()
+        };
+        turn.audit(&mut self.ledger);
+        HeldTurn {
+            length,
+            enabled,
+            turn,
+        }
     }
 
     /// Takes the turn back from who held it. The pass has seen the history then, in which only failures in reads came
     /// since `hold`.
-    pub fn give_back(&mut self, board: &NamedBoard<J>, pass: &mut Pass<J>, turn: Turn<J, S>)
+    pub fn give_back(&mut self, board: &NamedBoard<J>, pass: &mut Pass<J>, mut turn: Turn<J, S>)
         requires holds { HoldsTurn S.tells S.faults (front pass.old.seat) turn.share.amount turn.log }
         ensures held { IsHeldOver (front pass.old.seat) (front pass.new.seat) }
         ensures since { (m H : List Event) → turn.share.amount ≡ turn_amount m None → is_free m ≡ true → IsPrefix m H → IsPrefix H (front pass.old.seat) → IsHeldOver H (front pass.new.seat) }
@@ -54,6 +66,9 @@ impl<J: Naming, S: Store + Drop> LockedBook<J, S> {
         ensures state { self.new.book.state ≡ self.old.book.state }
         ensures back { is_none self.new.log ≡ false }
     {
-        unreachable!()
+        turn.audit(&mut self.ledger);
+        self.book.legal();
+        self.book.tell(&board.board, &mut pass.seat);
+        self.turn = Some(turn);
     }
 }
