@@ -1,0 +1,2 @@
+mod Administering
+mod Auditing
