@@ -331,17 +331,18 @@ impl<J: Naming, B: Backend, S: Store + Drop> Control<J, B, S> {
         }
     }
 
-    /// Waits until the first `n` entries have ended.
-    fn wait_for_ended<R: Wait>(&self, rt: &R, n: u64) {
-        self.settled.wait_while(
-            rt,
-            self.book.lock(rt),
-            |locked: &mut LockedBook<J, S>| -> bool { locked.has_ended_fewer(n) },
-        );
+    /// Waits, if somebody has the turn, until an entry has settled or ended. While nobody has it no entry is open, and
+    /// each enabled backend can answer.
+    fn wait_for_settling<R: Wait>(&self, rt: &R) {
+        let book = self.book.lock(rt);
+        if book.is_taken() {
+            self.settled.wait(rt, book);
+        }
     }
 
     /// Refuses the query if each backend that serves it has failed in it. Else those of them that did not stand where
-    /// they could answer are tried again, once the entries that the session has seen answered have ended.
+    /// they could answer are tried again, after what is under way: an entry that one of them has missed, or that the
+    /// session has seen answered and one of them has yet to carry out.
     fn tried_all<R: Wait>(
         &self,
         rt: &R,
@@ -361,7 +362,7 @@ impl<J: Naming, B: Backend, S: Store + Drop> Control<J, B, S> {
             return Some((Reply::Refused(refusal), query.least));
         }
         tries.later = 0;
-        self.wait_for_ended(rt, query.least);
+        self.wait_for_settling(rt);
         None
     }
 
