@@ -16,6 +16,7 @@ use Rattle.cj_cluster.specs.declared.event.Event.{Event}
 use Rattle.cj_cluster.specs.History.Histories.{log, tx_of}
 use Rattle.cj_cluster.specs.History.Legality.{FitsTx, IsFitEntry, IsLegal, IsSessionEntry}
 use Rattle.cj_cluster.specs.History.Turns.{entry_count_of, tx_after_entry}
+use Rattle.cj_cluster.proofs.Pushed.{log-prefix, prefix_length}
 use Rattle.cj_board.specs.declared.view.SeatView.{SeatView}
 use Rattle.cj_board.specs.Counting.{event_count_of}
 use Rattle.cj_board.proofs.Counts.{counts_of_prefix}
@@ -106,6 +107,11 @@ module _ (tells : Bool) (layout : Layout) (register : Register) (s : ℕ) (F G :
           let at : number - 1 ≡ n = (let k : number ≡ suc n = is in omega (arith, k)) in
           (subst (λ k. slice_get (log G) k ≡ Some (record { session = s; seq = queries + 1; tx = tx; user = user; act = act })) at there.0, there.1)
 
+-- the session's reads need a position that its pass has seen
+pub owes_after : (number least : ℕ) (F G : List Event) → IsPrefix F G → least ≤ length (log F) → number ≤ length (log G) → least_after number least ≤ length (log G)
+owes_after zero least F G longer owes within = let more = prefix_length (log F) (log G) (log-prefix F G longer) in omega (arith, owes, more)
+owes_after (suc n) least F G longer owes within = within
+
 -- memory ran out before the entry was begun
 pub write_starved : (tells : Bool) (p : Placement) (least : ℕ) (e : Entry) (v w : SeatView) → IsSessionEntry (log v.front) e → least ≤ length (log v.front) → HasSeenMore v w → v.own_session ≡ e.session → event_count_of e.session v.front ≡ v.count
     → event_count_of w.own_session w.front ≤ w.count → IsLegal w.front → WritesTurn tells p e.session (record { front = v.front; least = least }) e 0 (Refused (refusal_of_code NO_MEMORY)) (record { front = w.front; least = least })
@@ -116,6 +122,15 @@ write_starved tells p least e v w fit owes more own counted few legal =
     let count : w.count ≡ v.count = more.count in
     let same : event_count_of e.session w.front ≡ event_count_of e.session v.front = omega (arith, less, up, count, counted) in
     turn_refused tells p v.front least e fit owes w.front errors.NoMemory (record { m = w.front; longer = more.front; quiet = same; why = refl }) legal
+
+-- so it is a write that scheduled nothing
+pub starved_turn : (tells : Bool) (p : Placement) (s least queries tx : ℕ) (user : List ℕ) (act : Act) (v w : SeatView) (reply : Reply) → (0 < s) × (s ≤ SESSION_NUMBER_LIMIT) → AreUpTo s queries (log v.front) → queries < REQUEST_LIMIT → FitsTx (tx_of (log v.front) s) tx act
+    → least ≤ length (log v.front) → v.own_session ≡ s → event_count_of s v.front ≡ v.count → reply ≡ Refused (refusal_of_code NO_MEMORY) → HasSeenMore v w → event_count_of w.own_session w.front ≤ w.count → IsLegal w.front
+    → WritesTurn tells p s (record { front = v.front; least = least }) (record { session = s; seq = queries + 1; tx = tx; user = user; act = act }) 0 reply (record { front = w.front; least = least })
+starved_turn tells p s least queries tx user act v w reply own newer room fits owes mine counted is more few legal =
+    let e : Entry = record { session = s; seq = queries + 1; tx = tx; user = user; act = act } in
+    subst (λ (r : Reply). WritesTurn tells p s (record { front = v.front; least = least }) e 0 r (record { front = w.front; least = least })) (sym is)
+    (write_starved tells p least e v w (is_next v.front s queries tx user act own newer room fits) owes more mine counted few legal)
 
 -- and its pass has counted each event still
 pub starved_counted : (s : ℕ) (v w : SeatView) → HasSeenMore v w → v.own_session ≡ s → event_count_of s v.front ≡ v.count → event_count_of w.own_session w.front ≤ w.count → (w.own_session ≡ s) × (event_count_of s w.front ≡ w.count)

@@ -26,6 +26,7 @@ use Rattle.cj_cluster.proofs.Pushed.{log-prefix, prefix_length, prefix_self, pre
 use Rattle.cj_board.specs.declared.view.SeatView.{SeatView}
 use Rattle.cj_board.specs.Counting.{event_count_of}
 use Rattle.cj_locked.specs.declared.failure.ReadFailure.TheVariants as failure
+use Rattle.cj_locked.specs.declared.look.Look.{Look}
 use Rattle.cj_locked.specs.Failures.{FailsSince}
 use Rattle.cj_locked.specs.Looking.{AreAllTried, IsLookAt, IsOwedAt, IsRightAt}
 use Rattle.cj_locked.specs.Passes.{HasSeenMore}
@@ -34,7 +35,9 @@ use Rattle.cj_locked.specs.Writing.{AreUpTo}
 use Rattle.cj_locked.proofs.Ending.{has_less}
 use Rattle.cj_locked.proofs.Reading.{failed_now, failed_still, read_leaves, turn_of_read}
 use Rattle.cj_locked.proofs.Writing.{still_counted}
-use Rattle.cj_control.specs.Reading.{HaveFailedSince}
+use Rattle.cj_control.specs.declared.read.Attempt.{Attempt}
+use Rattle.cj_control.specs.declared.read.Attempt.TheVariants as attempt
+use Rattle.cj_control.specs.Reading.{HaveFailedSince, IsAttempt}
 
 -- ---- masks
 
@@ -139,9 +142,9 @@ ends_in_vain tells p F m s q tx select least tried failed mask r n before all ha
 
 -- ---- what came of a failure
 
-module _ (tells : Bool) (p : Placement) (F G : List Event) (s q tx b : ℕ) (select : Select) (least : ℕ) where
-  pub failed_full : (events : ℕ) → FailsSince p F G s q b select (failure.Full events) → EndsRead tells p F s q tx select least G (Refused (record { code = HISTORY_FULL; a = events; b = 0 })) least
-  failed_full events x =
+module _ (tells : Bool) (p : Placement) (F G : List Event) (s q tx b : ℕ) (select : Select) (least : ℕ) (r : Reply) where
+  pub failed_full : (events : ℕ) → FailsSince p F G s q b select (failure.Full events) → r ≡ Refused (record { code = HISTORY_FULL; a = events; b = 0 }) → EndsRead tells p F s q tx select least G r least
+  failed_full events x is =
       refused
       record {
         m = x.m;
@@ -149,12 +152,28 @@ module _ (tells : Bool) (p : Placement) (F G : List Event) (s q tx b : ℕ) (sel
         after = subst (IsPrefix x.m) (sym x.at.2) (prefix_self x.m);
         refusal = record { code = HISTORY_FULL; a = events; b = 0 };
         why = full (ap (λ k. record { code = HISTORY_FULL; a = k; b = 0 }) x.at.1) x.at.0 x.at.3;
-        replied = refl;
+        replied = is;
       }
       refl
 
-  pub failed_unserved : FailsSince p F G s q b select failure.Unserved → EndsRead tells p F s q tx select least G (Refused (refusal_of_code NO_BACKEND)) least
-  failed_unserved x = ends_unserved tells p F x.m G s q tx select least (Refused (refusal_of_code NO_BACKEND)) least x.longer (subst (IsPrefix x.m) (sym x.at.1) (prefix_self x.m)) x.at.2 refl refl
+  pub failed_unserved : FailsSince p F G s q b select failure.Unserved → r ≡ Refused (refusal_of_code NO_BACKEND) → EndsRead tells p F s q tx select least G r least
+  failed_unserved x is = ends_unserved tells p F x.m G s q tx select least r least x.longer (subst (IsPrefix x.m) (sym x.at.1) (prefix_self x.m)) x.at.2 is refl
+
+-- what came of a backend that was asked later
+pub attempt_earlier : (tells : Bool) (p : Placement) (F h G : List Event) (s q b tx : ℕ) (select : Select) (least : ℕ) (a : Attempt) → IsPrefix F h → IsAttempt tells p h s q b tx select least G a → IsAttempt tells p F s q b tx select least G a
+attempt_earlier tells p F h G s q b tx select least (attempt.Ended r n) longer x = ends_earlier tells p F h G s q tx select least r n longer x
+attempt_earlier tells p F h G s q b tx select least attempt.Failed longer x = failed_earlier F h G s q b longer x
+attempt_earlier tells p F h G s q b tx select least attempt.Later longer x = tt
+
+-- ---- by result
+
+pub some_weaker : {A : Type 0} (P Q : A → Type 0) → ((x : A) → P x → Q x) → (o : Option A) → IfSome o P → IfSome o Q
+some_weaker P Q f (Some x) h = f x h
+some_weaker P Q f None h = tt
+
+-- a look, of which more is known
+pub look_is : (t u : Bool) (p : Placement) (h : List Event) (tx : ℕ) (select : Select) (least tried : ℕ) (x y : Look) → t ≡ u → x ≡ y → IsLookAt t p h tx select least tried x → IsLookAt u p h tx select least tried y
+look_is t u p h tx select least tried x y told is looked = subst (λ (l : Look). IsLookAt u p h tx select least tried l) is (subst (λ (k : Bool). IsLookAt k p h tx select least tried x) told looked)
 
 -- ---- the whole
 

@@ -344,7 +344,8 @@ impl<J: Naming, B: Backend, S: Store + Drop> Control<J, B, S> {
     }
 
     /// Refuses the query if each backend that serves it has failed in it. Else those of them that did not stand where
-    /// they could answer are tried again, once the entries that the session has seen answered have ended.
+    /// they could answer are tried again, after what is under way: an entry that one of them has missed, or that the
+    /// session has seen answered and one of them has yet to carry out.
     fn tried_all<R: Wait>(
         &self,
         rt: &R,
