@@ -3,7 +3,7 @@
 use crate::lines::Lines;
 use crate::statements::{drawn_session, session_of};
 use cj_backend::Backend;
-use cj_control::{Caller, Control};
+use cj_control::Control;
 use cj_desk::{Desk, Written};
 use cj_locked::{Naming, Pass};
 use cj_model::{Act, NoMemory, Reply, Request, Text, USER_LIMIT};
@@ -17,17 +17,12 @@ use std::sync::Wait;
 const STATEMENTS: u64 = 40;
 
 /// Serves a session over the bytes that its client sends, and returns what it was sent.
-pub fn served<J: Naming, B: Backend, S: Store + Drop, R: Wait>(
-    rt: &R,
-    alloc: Global,
-    caller: &mut Caller<'_, J, B, S>,
-    sent: Vec<u8>,
-) -> MemSink {
+pub fn served<R, K: Desk<R>>(rt: &R, alloc: Global, desk: &mut K, sent: Vec<u8>) -> MemSink {
     let mut source = MemSource::new(sent, Vec::new(alloc));
     let mut sink = MemSink::new(Vec::new(alloc), Vec::new(alloc));
     let mut draws = PcgDraw::new(0);
     let clock = FixedClock::new(0);
-    serve_session(rt, alloc, caller, &mut source, &mut sink, &clock, &mut draws);
+    serve_session(rt, alloc, desk, &mut source, &mut sink, &clock, &mut draws);
     sink
 }
 
@@ -75,8 +70,10 @@ pub fn read_planted<J: Naming, B: Backend, S: Store + Drop, R: Wait>(
 
 /// The user of all sessions.
 fn user(alloc: Global) -> Result<Option<Text>, NoMemory> {
-    let user = Text::of(b"ann".to_vec(alloc)?);
-    Ok(user.filter(|user| user.len() <= USER_LIMIT))
+    match Text::of(b"ann".to_vec(alloc)?) {
+        Some(user) if user.len() <= USER_LIMIT => Ok(Some(user)),
+        _ => Ok(None),
+    }
 }
 
 /// The act that the text of a statement is, if it is one of these that write.

@@ -1,7 +1,7 @@
 //! What a cluster is configured with.
 
 use crate::gate::Slow;
-use crate::words::Placed;
+use crate::tasks::Placed;
 use cj_balance::Balancer;
 use cj_book::BookParts;
 use cj_cache::Cache;

@@ -6,7 +6,7 @@ use crate::configured::{conf_of, tried, tried_backends};
 use crate::lines::Lines;
 use crate::started::started;
 use crate::statements::TABLES;
-use crate::words::Plan;
+use crate::tasks::Plan;
 use cj_backend::Backend;
 use cj_control::Control;
 use cj_core::Shared;
@@ -101,6 +101,9 @@ fn do_job<J: Naming, B: Backend, S: Store + Drop, R: Wait + Clock>(
     mut job: Job<J>,
 ) -> Option<Lines> {
     let mut lines = Lines::new(alloc);
+    lines.add("thread").ok()?;
+    lines.add_number(job.number).ok()?;
+    lines.add("\n").ok()?;
     let mut draw = PcgDraw::new(run.plan.seed.wrapping_mul(CLIENTS + 1).wrapping_add(job.number));
     for _ in 0..u64::MAX {
         if is_over(rt, run.began, run.plan.seconds) {

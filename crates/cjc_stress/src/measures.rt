@@ -5,15 +5,14 @@ use crate::configured::{conf_of, measured, memory_backends, parts_of};
 use crate::lines::Lines;
 use crate::started::started;
 use crate::statements::{append_query, login, session_of};
-use crate::words::{Kind, Measure};
+use crate::tasks::{Kind, Measure};
 use cj_backend::Backend;
 use cj_control::Control;
 use cj_core::{Shared, World};
 use cj_locked::{Naming, Pass};
 use cj_mem::MemBackend;
 use cj_model::NoMemory;
-use cj_outside::{Draw, FixedClock, MemSink, MemSource, PcgDraw, Store};
-use cj_session::serve_session;
+use cj_outside::{Draw, PcgDraw, Store};
 use std::alloc::Global;
 use std::marker::Brand;
 use std::sync::atomic::{AtomicU64, Ordering};
@@ -37,15 +36,15 @@ struct Job<J: Naming> {
     endless: bool,
 }
 
-/// The requests of a session, by their kind.
-fn requests_of(
+/// Appends requests, by their kind.
+fn append_requests(
     alloc: Global,
+    frames: &mut Vec<u8>,
     writes: bool,
     count: u64,
     seed: u64,
-) -> Result<Vec<u8>, NoMemory> {
+) -> Result<(), NoMemory> {
     let mut draw = PcgDraw::new(seed);
-    let mut frames = login(alloc)?;
     for _ in 0..count {
         let k = draw.below(ROWS);
         let text = if writes {
@@ -53,8 +52,20 @@ fn requests_of(
         } else {
             format!(in alloc; "SELECT v FROM t WHERE k = {k}")?
         };
-        append_query(&mut frames, text.as_str())?;
+        append_query(frames, text.as_str())?;
     }
+    Ok(())
+}
+
+/// The requests of a session, by their kind.
+fn requests_of(
+    alloc: Global,
+    writes: bool,
+    count: u64,
+    seed: u64,
+) -> Result<Vec<u8>, NoMemory> {
+    let mut frames = login(alloc)?;
+    append_requests(alloc, &mut frames, writes, count, seed)?;
     Ok(frames)
 }
 
@@ -71,7 +82,10 @@ fn rows(alloc: Global) -> Result<Vec<u8>, NoMemory> {
 /// The nanoseconds since this moment.
 fn passed<R: Clock>(rt: &R, began: Instant) -> u64 {
     match began.elapsed(rt) {
-        Ok(passed) => u64::try_from(passed.as_nanos()).unwrap_or(u64::MAX),
+        Ok(passed) => {
+            let seconds = passed.as_secs().saturating_mul(1_000_000_000);
+            seconds.saturating_add(passed.subsec_nanos() as u64)
+        }
         Err(_) => 0,
     }
 }
@@ -204,7 +218,7 @@ fn run_all<
     tell(alloc, passed(rt, began), told)
 }
 
-/// Serves a session at a desk that shares nothing, twice: one that makes the rows, and one that is measured.
+/// Serves one session at a desk that shares nothing, which makes the rows first.
 fn run_alone<S: Store + Drop, R: Clock>(
     rt: &R,
     alloc: Global,
@@ -212,30 +226,18 @@ fn run_alone<S: Store + Drop, R: Clock>(
     measure: Measure,
 ) -> Option<Vec<u8>> {
     let writes = measure.kind == Kind::WritesAlone;
-    let sent = requests_of(alloc, writes, measure.requests, 0).ok()?;
-    let world = serve_alone(alloc, world, rows(alloc).ok()?)?;
-    let began = Instant::now(rt).ok()?;
-    let world = serve_alone(alloc, world, sent)?;
-    let passed = passed(rt, began);
-    let _ = world.into_log();
-    tell(alloc, passed, Vec::new(alloc))
-}
-
-/// Serves a session at a desk that shares nothing.
-fn serve_alone<S: Store + Drop>(
-    alloc: Global,
-    world: World<MemBackend, S>,
-    sent: Vec<u8>,
-) -> Option<World<MemBackend, S>> {
+    let mut sent = rows(alloc).ok()?;
+    append_requests(alloc, &mut sent, writes, measure.requests, 0).ok()?;
     let Ok(mut desk) = world.desk() else {
         return None;
     };
-    let mut source = MemSource::new(sent, Vec::new(alloc));
-    let mut sink = MemSink::new(Vec::new(alloc), Vec::new(alloc));
-    let mut draws = PcgDraw::new(0);
-    let clock = FixedClock::new(0);
-    serve_session(&(), alloc, &mut desk, &mut source, &mut sink, &clock, &mut draws);
-    Some(desk.close())
+    let began = Instant::now(rt).ok()?;
+    let sink = served(&(), alloc, &mut desk, sent);
+    let passed = passed(rt, began);
+    if sink.content().is_empty() {
+        return None;
+    }
+    tell(alloc, passed, Vec::new(alloc))
 }
 
 /// Measures, and returns what is told. None if the cluster does not start, or memory is wanting.
