@@ -1,5 +1,12 @@
 //! Measures: threads that each serve one session, and the time that it took.
 
+ghost use Rattle.std.specs.Prelude.{◌≡◌, ◌≤◌, true, [], length, vec_capacity};
+ghost use Rattle.cj_outside.specs.Stores.{Only};
+ghost use Rattle.cj_model.specs.declared.limits.TheConstants.{BACKEND_LIMIT};
+ghost use Rattle.cj_cluster.specs.History.Histories.{is_free};
+ghost use Rattle.cj_board.specs.Seats.{board_id, pass_board};
+ghost use Rattle.cj_control.specs.Starting.{AreOfStarted};
+
 use crate::client::served;
 use crate::configured::{conf_of, measured, memory_backends, parts_of};
 use crate::lines::Lines;
@@ -15,9 +22,9 @@ use cj_model::NoMemory;
 use cj_outside::{Draw, PcgDraw, Store};
 use std::alloc::Global;
 use std::marker::Brand;
+use std::sync::Wait;
 use std::sync::atomic::{AtomicU64, Ordering};
 use std::sync::ledger::Blank;
-use std::sync::Wait;
 use std::thread;
 use std::thread::Threads;
 use std::time::{Clock, Instant};
@@ -58,12 +65,7 @@ fn append_requests(
 }
 
 /// The requests of a session, by their kind.
-fn requests_of(
-    alloc: Global,
-    writes: bool,
-    count: u64,
-    seed: u64,
-) -> Result<Vec<u8>, NoMemory> {
+fn requests_of(alloc: Global, writes: bool, count: u64, seed: u64) -> Result<Vec<u8>, NoMemory> {
     let mut frames = login(alloc)?;
     append_requests(alloc, &mut frames, writes, count, seed)?;
     Ok(frames)
@@ -103,7 +105,11 @@ fn serve<J: Naming, B: Backend, S: Store + Drop, R: Wait + Clock>(
     let sink = served(rt, alloc, &mut caller, sent);
     let passed = passed(rt, began);
     control.leave(rt, caller, pass);
-    if sink.content().is_empty() { None } else { Some(passed) }
+    if sink.content().is_empty() {
+        None
+    } else {
+        Some(passed)
+    }
 }
 
 /// Serves sessions until no reader is left, and says how many requests they had.
@@ -199,22 +205,28 @@ fn tell(alloc: Global, wall: u64, told: Vec<Option<(bool, u64)>>) -> Option<Vec<
 
 fn run_all<
     J: Naming + Send + Sync,
-    B: Backend + Drop + Send,
+    B: Backend + Drop + Send + Sync,
     S: Store + Drop + Send,
     R: Threads + Wait + Clock + Sync,
->(
-    rt: &R,
-    alloc: Global,
-    shared: Shared<B, S>,
-    blank: Blank,
-    measure: Measure,
-) -> Option<Vec<u8>> {
+>(rt: &R, alloc: Global, shared: Shared<B, S>, blank: Blank, measure: Measure) -> Option<Vec<u8>>
+    requires world { AreOfStarted B.tells S.tells S.faults (board_id shared.board) (pass_board shared.pass) shared.book shared.recovery_log shared.cells.items shared.accounts shared.dumps }
+    requires board { board_id shared.board ≡ J.board }
+    requires layout { shared.book.state.layout ≡ J.layout }
+    requires turn { (blank.name ≡ J.turn) × (blank.parts ≡ 1) }
+    requires tells { J.tells ≡ B.tells }
+    requires emptied { (length shared.emptied.items ≡ 0) × (BACKEND_LIMIT ≤ vec_capacity shared.emptied) }
+{
     let (control, mut pass) = Control::<J, B, S>::start(alloc, shared, blank).ok()?;
     serve(rt, alloc, &control, &mut pass, rows(alloc).ok()?)?;
     let jobs = jobs_of(alloc, &control, &mut pass, measure)?;
     let readers = AtomicU64::new(measure.threads);
     let began = Instant::now(rt).ok()?;
-    let told = thread::map_vec(rt, jobs, &|job: Job<J>| do_job(rt, alloc, &control, &readers, job)).ok()?;
+    let told = thread::map_vec(
+        rt,
+        jobs,
+        &|job: Job<J>| do_job(rt, alloc, &control, &readers, job),
+    )
+    .ok()?;
     tell(alloc, passed(rt, began), told)
 }
 
@@ -224,7 +236,10 @@ fn run_alone<S: Store + Drop, R: Clock>(
     alloc: Global,
     world: World<MemBackend, S>,
     measure: Measure,
-) -> Option<Vec<u8>> {
+) -> Option<Vec<u8>>
+    requires fresh { world.core.sessions ≡ [] }
+    requires idle { is_free world.core.history ≡ true }
+{
     let writes = measure.kind == Kind::WritesAlone;
     let mut sent = rows(alloc).ok()?;
     append_requests(alloc, &mut sent, writes, measure.requests, 0).ok()?;
@@ -246,7 +261,9 @@ pub fn bench<S: Store + Drop + Send, R: Threads + Wait + Clock + Sync>(
     alloc: Global,
     measure: Measure,
     log: S,
-) -> Option<Vec<u8>> {
+) -> Option<Vec<u8>>
+    requires { S.tells ≡ true → Only (S.held log) (S.may log) }
+{
     let conf = conf_of(alloc, measured(measure.cache))?;
     let backends = memory_backends(alloc, conf.placement.count()).ok()?;
     if matches!(measure.kind, Kind::ReadsAlone | Kind::WritesAlone) {
