@@ -1,5 +1,7 @@
 //! The administrator: ends orphans, sets checkpoints, audits, and seldom disables a backend.
 
+ghost use Rattle.std.specs.Prelude.{◌<◌, ◌≤◌, length};
+
 use crate::lines::Lines;
 use cj_backend::Backend;
 use cj_control::{AdminError, Control};
@@ -90,8 +92,9 @@ fn checkpoint<J: Naming, B: Backend, S: Store + Drop, R: Wait>(
     lines: &mut Lines,
 ) -> Result<(), NoMemory> {
     let text = format!(in alloc; "c{number}")?;
-    let Some(name) = Name::of(text.as_bytes()) else {
-        return Ok(());
+    let name = match Name::of(text.as_bytes()) {
+        Some(name) if !name.as_slice().is_empty() => name,
+        _ => return Ok(()),
     };
     let told = control.checkpoint(rt, pass, &name);
     lines.add("checkpoint")?;
@@ -106,7 +109,9 @@ fn disable<J: Naming, B: Backend, S: Store + Drop, R: Wait>(
     pass: &mut Pass<J>,
     b: u8,
     lines: &mut Lines,
-) -> Result<(), NoMemory> {
+) -> Result<(), NoMemory>
+    requires { b < length J.layout.names }
+{
     let told = control.disable(rt, pass, b);
     lines.add("disable")?;
     lines.add_number(b as u64)?;
@@ -137,16 +142,19 @@ pub fn audit<J: Naming, B: Backend, S: Store + Drop, R: Wait>(
     lines.add("\n")
 }
 
-/// One round of the administrator. All backends but the first, and fewer than this many, may be disabled.
+/// One round of the administrator. Each of these many backends but the first may be disabled.
 pub fn administer<J: Naming, B: Backend, S: Store + Drop, R: Wait>(
     rt: &R,
     alloc: Global,
     control: &Control<J, B, S>,
     pass: &mut Pass<J>,
     orphans: &Orphans,
+    backends: u8,
     draw: &mut PcgDraw,
     lines: &mut Lines,
-) -> Result<(), NoMemory> {
+) -> Result<(), NoMemory>
+    requires { backends ≤ length J.layout.names }
+{
     abort_all(rt, control, pass, orphans, lines)?;
     match draw.below(8) {
         0 => abort(rt, control, pass, draw.below(1000), lines)?,
@@ -154,8 +162,9 @@ pub fn administer<J: Naming, B: Backend, S: Store + Drop, R: Wait>(
         3 | 4 => audit(rt, control, pass, "audit", lines)?,
         _ => {}
     }
-    match draw.below(SELDOM) {
-        b @ 1..=3 => disable(rt, control, pass, b as u8, lines),
-        _ => Ok(()),
+    let b = draw.below(SELDOM);
+    if b == 0 || b >= backends as u64 {
+        return Ok(());
     }
+    disable(rt, control, pass, b as u8, lines)
 }

@@ -1,13 +1,19 @@
 //! Clients: sessions one after another, each served over what it sends.
 
+ghost use Rattle.std.specs.Prelude.{◌≡◌, ◌≤◌, ◌^◌, length, IfOk, IfSome};
+ghost use Rattle.cj_model.specs.declared.limits.TheConstants.{USER_LIMIT};
+ghost use Rattle.cj_model.specs.declared.request.Act.TheVariants as acts;
+ghost use Rattle.cj_model.specs.declared.write.Write.{Write};
+ghost use Rattle.cj_desk.specs.DeskStates.{desk_tx};
+
 use crate::lines::Lines;
 use crate::statements::{drawn_session, session_of};
 use cj_backend::Backend;
-use cj_control::{Caller, Control};
+use cj_control::Control;
 use cj_desk::{Desk, Written};
 use cj_locked::{Naming, Pass};
 use cj_model::{Act, NoMemory, Reply, Request, Text, USER_LIMIT};
-use cj_outside::{FixedClock, MemSink, MemSource, PcgDraw, Store};
+use cj_outside::{Draw, FixedClock, MemSink, MemSource, PcgDraw, Store};
 use cj_session::serve_session;
 use cj_sql::read;
 use std::alloc::Global;
@@ -17,17 +23,15 @@ use std::sync::Wait;
 const STATEMENTS: u64 = 40;
 
 /// Serves a session over the bytes that its client sends, and returns what it was sent.
-pub fn served<J: Naming, B: Backend, S: Store + Drop, R: Wait>(
-    rt: &R,
-    alloc: Global,
-    caller: &mut Caller<'_, J, B, S>,
-    sent: Vec<u8>,
-) -> MemSink {
+pub fn served<R, K: Desk<R>>(rt: &R, alloc: Global, desk: &mut K, sent: Vec<u8>) -> MemSink
+    requires few { (K.state_of desk.old).requests ≤ 2 ^ 61 }
+    requires closed { desk_tx (K.state_of desk.old) ≡ 0 }
+{
     let mut source = MemSource::new(sent, Vec::new(alloc));
     let mut sink = MemSink::new(Vec::new(alloc), Vec::new(alloc));
     let mut draws = PcgDraw::new(0);
     let clock = FixedClock::new(0);
-    serve_session(rt, alloc, caller, &mut source, &mut sink, &clock, &mut draws);
+    serve_session(rt, alloc, desk, &mut source, &mut sink, &clock, &mut draws);
     sink
 }
 
@@ -53,15 +57,22 @@ pub fn serve_one<J: Naming, B: Backend, S: Store + Drop, R: Wait>(
     lines.add("\n")
 }
 
-/// One request of a client that has a session of its own for each, and tells it as one of session 0.
+/// One request of a client that has a session of its own for each, and tells it as one of session 0. Two texts ask the
+/// same, so that the cache does not answer each second one.
 pub fn read_planted<J: Naming, B: Backend, S: Store + Drop, R: Wait>(
     rt: &R,
     alloc: Global,
     control: &Control<J, B, S>,
     pass: &mut Pass<J>,
+    draw: &mut PcgDraw,
     lines: &mut Lines,
 ) -> Result<(), NoMemory> {
-    let sent = session_of(alloc, "SELECT * FROM t0")?;
+    let text = if draw.below(2) == 0 {
+        "SELECT * FROM t0"
+    } else {
+        "SELECT k, v FROM t0"
+    };
+    let sent = session_of(alloc, text)?;
     let Ok(mut caller) = control.caller(rt, pass) else {
         return Ok(());
     };
@@ -74,9 +85,13 @@ pub fn read_planted<J: Naming, B: Backend, S: Store + Drop, R: Wait>(
 }
 
 /// The user of all sessions.
-fn user(alloc: Global) -> Result<Option<Text>, NoMemory> {
-    let user = Text::of(b"ann".to_vec(alloc)?);
-    Ok(user.filter(|user| user.len() <= USER_LIMIT))
+fn user(alloc: Global) -> Result<Option<Text>, NoMemory>
+    ensures { IfOk result (λ user. IfSome user (λ text. length text ≤ USER_LIMIT)) }
+{
+    match Text::of(b"ann".to_vec(alloc)?) {
+        Some(user) if user.len() <= USER_LIMIT => Ok(Some(user)),
+        _ => Ok(None),
+    }
 }
 
 /// The act that the text of a statement is, if it is one of these that write.

@@ -1,7 +1,13 @@
 //! What a cluster is configured with.
 
+ghost use Rattle.std.specs.Prelude.{◌≡◌, All, IfOk, IfSome, length};
+ghost use Rattle.cj_model.specs.Cluster.Caching.{empty_cache};
+ghost use Rattle.cj_conf.specs.Confs.{IsUsable};
+ghost use Rattle.cj_flaky.specs.FlakyBackends.{fresh_over};
+ghost use Rattle.cj_mem.specs.MemoryBackends.{fresh_state};
+
 use crate::gate::Slow;
-use crate::words::Placed;
+use crate::tasks::Placed;
 use cj_balance::Balancer;
 use cj_book::BookParts;
 use cj_cache::Cache;
@@ -17,8 +23,10 @@ use std::alloc::Global;
 pub type Tried = Gated<Flaky<MemBackend>, Slow>;
 
 /// So many steps each write of a backend takes, and a backend that fails does so in so many calls of the first `LAST`.
-const STEPS: u32 = 4000;
+const STEPS: u32 = 20000;
+
 const FAILS: u64 = 6;
+
 const LAST: u64 = 30000;
 
 const EVERYWHERE: &[u8] = b"level = \"raidb1\"
@@ -60,12 +68,22 @@ pub fn measured(cache: bool) -> &'static [u8] {
 }
 
 /// The configuration that a text is. None if it is none, or memory is wanting.
-pub fn conf_of(alloc: Global, text: &[u8]) -> Option<Conf> {
-    read_conf(alloc, text).ok()
+pub fn conf_of(alloc: Global, text: &[u8]) -> Option<Conf>
+    ensures { IfSome result IsUsable }
+{
+    match read_conf(alloc, text) {
+        Ok(conf) => Some(conf),
+        Err(_) => None,
+    }
 }
 
 /// Makes of a configuration what a world is made of beside its backends.
-pub fn parts_of(alloc: Global, conf: Conf) -> Result<Parts, NoMemory> {
+pub fn parts_of(alloc: Global, conf: Conf) -> Result<Parts, NoMemory>
+    requires { IsUsable conf }
+    ensures placement { IfOk result (λ parts. parts.book.placement ≡ conf.placement) }
+    ensures cache { IfOk result (λ parts. parts.book.cache ≡ empty_cache conf.cache) }
+    ensures accounts { IfOk result (λ parts. parts.accounts ≡ conf.accounts) }
+{
     let Conf {
         placement,
         accounts,
@@ -85,7 +103,10 @@ pub fn parts_of(alloc: Global, conf: Conf) -> Result<Parts, NoMemory> {
 }
 
 /// Makes so many empty backends in memory.
-pub fn memory_backends(alloc: Global, count: u8) -> Result<Backends<MemBackend>, NoMemory> {
+pub fn memory_backends(alloc: Global, count: u8) -> Result<Backends<MemBackend>, NoMemory>
+    ensures count { IfOk result (λ backends. length backends ≡ count) }
+    ensures fresh { IfOk result (All (λ b. b ≡ fresh_state)) }
+{
     let mut backends = Backends::new(alloc);
     for _ in 0..count {
         backends.push(MemBackend::new(alloc))?;
@@ -108,7 +129,10 @@ pub fn tried_backends(
     count: u8,
     seed: u64,
     fails: bool,
-) -> Result<Backends<Tried>, NoMemory> {
+) -> Result<Backends<Tried>, NoMemory>
+    ensures count { IfOk result (λ backends. length backends ≡ count) }
+    ensures fresh { IfOk result (All (λ b. b.inner ≡ fresh_over fresh_state b.inner.fails)) }
+{
     let mut draw = PcgDraw::new(seed);
     let mut backends = Backends::new(alloc);
     for b in 0..count {

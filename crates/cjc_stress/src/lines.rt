@@ -26,7 +26,8 @@ impl Lines {
 
     /// Adds a space and a number.
     pub fn add_number(&mut self, number: u64) -> Result<(), NoMemory> {
-        let text = format!(in self.alloc; " {number}")?;
+        let alloc = self.alloc;
+        let text = format!(in alloc; " {number}")?;
         self.add(text.as_str())
     }
 

@@ -4,23 +4,23 @@
 //! sets checkpoints and audits. It writes what each session sent and was sent, and leaves the recovery log: whoever
 //! reads both can tell whether each reply is one database's. `bench` writes times. It promises nothing of its own.
 //!
-//! To change: a new kind of statement is in `statements.rt`, a new measure in `bench.rt`.
+//! To change: a new kind of statement is in `statements.rt`, a new measure in `measures.rt`.
 #![tactic(auto)]
 
 mod administrator;
-mod bench;
 mod client;
 mod configured;
 mod gate;
 mod lines;
+mod measures;
 mod started;
 mod statements;
-mod stress;
-mod words;
+mod tasks;
+mod trial;
 
-use crate::bench::bench;
-use crate::stress::stress;
-use crate::words::{Task, task_of};
+use crate::measures::bench;
+use crate::tasks::{Task, task_of};
+use crate::trial::stress;
 use cj_edge::{FileStore, StdSink, words};
 use cj_outside::write_all;
 use std::process::ExitCode;
@@ -43,7 +43,7 @@ fn main(rt: HostRuntime) -> ExitCode {
     };
     let mut output = StdSink::new(rt.stdout());
     match told {
-        Ok(text) if write_all(&mut output, &text).is_ok() => ExitCode::from(0),
+        Some(text) if write_all(&mut output, &text).is_ok() => ExitCode::from(0),
         _ => ExitCode::from(1),
     }
 }

@@ -6,6 +6,7 @@ use std::alloc::Global;
 
 /// So many tables there are, and so many keys are used in each.
 pub const TABLES: u64 = 4;
+
 const KEYS: u64 = 24;
 
 /// The frame of Login of `ann`.
@@ -54,7 +55,11 @@ fn drawn_statement(alloc: Global, draw: &mut PcgDraw) -> Result<String, NoMemory
 }
 
 /// Draws the frames of a session: Login, and then so many statements.
-pub fn drawn_session(alloc: Global, draw: &mut PcgDraw, statements: u64) -> Result<Vec<u8>, NoMemory> {
+pub fn drawn_session(
+    alloc: Global,
+    draw: &mut PcgDraw,
+    statements: u64,
+) -> Result<Vec<u8>, NoMemory> {
     let mut frames = login(alloc)?;
     for _ in 0..statements {
         let text = drawn_statement(alloc, draw)?;

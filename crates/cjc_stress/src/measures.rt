@@ -1,24 +1,30 @@
 //! Measures: threads that each serve one session, and the time that it took.
 
+ghost use Rattle.std.specs.Prelude.{◌≡◌, ◌≤◌, true, [], length, vec_capacity};
+ghost use Rattle.cj_outside.specs.Stores.{Only};
+ghost use Rattle.cj_model.specs.declared.limits.TheConstants.{BACKEND_LIMIT};
+ghost use Rattle.cj_cluster.specs.History.Histories.{is_free};
+ghost use Rattle.cj_board.specs.Seats.{board_id, pass_board};
+ghost use Rattle.cj_control.specs.Starting.{AreOfStarted};
+
 use crate::client::served;
 use crate::configured::{conf_of, measured, memory_backends, parts_of};
 use crate::lines::Lines;
 use crate::started::started;
 use crate::statements::{append_query, login, session_of};
-use crate::words::{Kind, Measure};
+use crate::tasks::{Kind, Measure};
 use cj_backend::Backend;
 use cj_control::Control;
 use cj_core::{Shared, World};
 use cj_locked::{Naming, Pass};
 use cj_mem::MemBackend;
 use cj_model::NoMemory;
-use cj_outside::{Draw, FixedClock, MemSink, MemSource, PcgDraw, Store};
-use cj_session::serve_session;
+use cj_outside::{Draw, PcgDraw, Store};
 use std::alloc::Global;
 use std::marker::Brand;
+use std::sync::Wait;
 use std::sync::atomic::{AtomicU64, Ordering};
 use std::sync::ledger::Blank;
-use std::sync::Wait;
 use std::thread;
 use std::thread::Threads;
 use std::time::{Clock, Instant};
@@ -37,15 +43,15 @@ struct Job<J: Naming> {
     endless: bool,
 }
 
-/// The requests of a session, by their kind.
-fn requests_of(
+/// Appends requests, by their kind.
+fn append_requests(
     alloc: Global,
+    frames: &mut Vec<u8>,
     writes: bool,
     count: u64,
     seed: u64,
-) -> Result<Vec<u8>, NoMemory> {
+) -> Result<(), NoMemory> {
     let mut draw = PcgDraw::new(seed);
-    let mut frames = login(alloc)?;
     for _ in 0..count {
         let k = draw.below(ROWS);
         let text = if writes {
@@ -53,8 +59,15 @@ fn requests_of(
         } else {
             format!(in alloc; "SELECT v FROM t WHERE k = {k}")?
         };
-        append_query(&mut frames, text.as_str())?;
+        append_query(frames, text.as_str())?;
     }
+    Ok(())
+}
+
+/// The requests of a session, by their kind.
+fn requests_of(alloc: Global, writes: bool, count: u64, seed: u64) -> Result<Vec<u8>, NoMemory> {
+    let mut frames = login(alloc)?;
+    append_requests(alloc, &mut frames, writes, count, seed)?;
     Ok(frames)
 }
 
@@ -71,7 +84,10 @@ fn rows(alloc: Global) -> Result<Vec<u8>, NoMemory> {
 /// The nanoseconds since this moment.
 fn passed<R: Clock>(rt: &R, began: Instant) -> u64 {
     match began.elapsed(rt) {
-        Ok(passed) => u64::try_from(passed.as_nanos()).unwrap_or(u64::MAX),
+        Ok(passed) => {
+            let seconds = passed.as_secs().saturating_mul(1_000_000_000);
+            seconds.saturating_add(passed.subsec_nanos() as u64)
+        }
         Err(_) => 0,
     }
 }
@@ -89,7 +105,11 @@ fn serve<J: Naming, B: Backend, S: Store + Drop, R: Wait + Clock>(
     let sink = served(rt, alloc, &mut caller, sent);
     let passed = passed(rt, began);
     control.leave(rt, caller, pass);
-    if sink.content().is_empty() { None } else { Some(passed) }
+    if sink.content().is_empty() {
+        None
+    } else {
+        Some(passed)
+    }
 }
 
 /// Serves sessions until no reader is left, and says how many requests they had.
@@ -185,57 +205,54 @@ fn tell(alloc: Global, wall: u64, told: Vec<Option<(bool, u64)>>) -> Option<Vec<
 
 fn run_all<
     J: Naming + Send + Sync,
-    B: Backend + Drop + Send,
+    B: Backend + Drop + Send + Sync,
     S: Store + Drop + Send,
     R: Threads + Wait + Clock + Sync,
->(
-    rt: &R,
-    alloc: Global,
-    shared: Shared<B, S>,
-    blank: Blank,
-    measure: Measure,
-) -> Option<Vec<u8>> {
+>(rt: &R, alloc: Global, shared: Shared<B, S>, blank: Blank, measure: Measure) -> Option<Vec<u8>>
+    requires world { AreOfStarted B.tells S.tells S.faults (board_id shared.board) (pass_board shared.pass) shared.book shared.recovery_log shared.cells.items shared.accounts shared.dumps }
+    requires board { board_id shared.board ≡ J.board }
+    requires layout { shared.book.state.layout ≡ J.layout }
+    requires turn { (blank.name ≡ J.turn) × (blank.parts ≡ 1) }
+    requires tells { J.tells ≡ B.tells }
+    requires emptied { (length shared.emptied.items ≡ 0) × (BACKEND_LIMIT ≤ vec_capacity shared.emptied) }
+{
     let (control, mut pass) = Control::<J, B, S>::start(alloc, shared, blank).ok()?;
     serve(rt, alloc, &control, &mut pass, rows(alloc).ok()?)?;
     let jobs = jobs_of(alloc, &control, &mut pass, measure)?;
     let readers = AtomicU64::new(measure.threads);
     let began = Instant::now(rt).ok()?;
-    let told = thread::map_vec(rt, jobs, &|job: Job<J>| do_job(rt, alloc, &control, &readers, job)).ok()?;
+    let told = thread::map_vec(
+        rt,
+        jobs,
+        &|job: Job<J>| do_job(rt, alloc, &control, &readers, job),
+    )
+    .ok()?;
     tell(alloc, passed(rt, began), told)
 }
 
-/// Serves a session at a desk that shares nothing, twice: one that makes the rows, and one that is measured.
+/// Serves one session at a desk that shares nothing, which makes the rows first.
 fn run_alone<S: Store + Drop, R: Clock>(
     rt: &R,
     alloc: Global,
     world: World<MemBackend, S>,
     measure: Measure,
-) -> Option<Vec<u8>> {
+) -> Option<Vec<u8>>
+    requires fresh { world.core.sessions ≡ [] }
+    requires idle { is_free world.core.history ≡ true }
+{
     let writes = measure.kind == Kind::WritesAlone;
-    let sent = requests_of(alloc, writes, measure.requests, 0).ok()?;
-    let world = serve_alone(alloc, world, rows(alloc).ok()?)?;
-    let began = Instant::now(rt).ok()?;
-    let world = serve_alone(alloc, world, sent)?;
-    let passed = passed(rt, began);
-    let _ = world.into_log();
-    tell(alloc, passed, Vec::new(alloc))
-}
-
-/// Serves a session at a desk that shares nothing.
-fn serve_alone<S: Store + Drop>(
-    alloc: Global,
-    world: World<MemBackend, S>,
-    sent: Vec<u8>,
-) -> Option<World<MemBackend, S>> {
+    let mut sent = rows(alloc).ok()?;
+    append_requests(alloc, &mut sent, writes, measure.requests, 0).ok()?;
     let Ok(mut desk) = world.desk() else {
         return None;
     };
-    let mut source = MemSource::new(sent, Vec::new(alloc));
-    let mut sink = MemSink::new(Vec::new(alloc), Vec::new(alloc));
-    let mut draws = PcgDraw::new(0);
-    let clock = FixedClock::new(0);
-    serve_session(&(), alloc, &mut desk, &mut source, &mut sink, &clock, &mut draws);
-    Some(desk.close())
+    let began = Instant::now(rt).ok()?;
+    let sink = served(&(), alloc, &mut desk, sent);
+    let passed = passed(rt, began);
+    if sink.content().is_empty() {
+        return None;
+    }
+    tell(alloc, passed, Vec::new(alloc))
 }
 
 /// Measures, and returns what is told. None if the cluster does not start, or memory is wanting.
@@ -244,7 +261,9 @@ pub fn bench<S: Store + Drop + Send, R: Threads + Wait + Clock + Sync>(
     alloc: Global,
     measure: Measure,
     log: S,
-) -> Option<Vec<u8>> {
+) -> Option<Vec<u8>>
+    requires { S.tells ≡ true → Only (S.held log) (S.may log) }
+{
     let conf = conf_of(alloc, measured(measure.cache))?;
     let backends = memory_backends(alloc, conf.placement.count()).ok()?;
     if matches!(measure.kind, Kind::ReadsAlone | Kind::WritesAlone) {

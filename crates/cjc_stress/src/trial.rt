@@ -1,12 +1,18 @@
 //! Sessions and an administrator at one cluster, each in a thread of its own.
 
+ghost use Rattle.std.specs.Prelude.{◌≡◌, ◌≤◌, true, length, vec_capacity};
+ghost use Rattle.cj_outside.specs.Stores.{Only};
+ghost use Rattle.cj_model.specs.declared.limits.TheConstants.{BACKEND_LIMIT};
+ghost use Rattle.cj_board.specs.Seats.{board_id, pass_board};
+ghost use Rattle.cj_control.specs.Starting.{AreOfStarted};
+
 use crate::administrator::{Orphans, abort_all, administer, audit};
 use crate::client::{leave_orphan, read_planted, serve_one};
 use crate::configured::{conf_of, tried, tried_backends};
 use crate::lines::Lines;
 use crate::started::started;
 use crate::statements::TABLES;
-use crate::words::Plan;
+use crate::tasks::Plan;
 use cj_backend::Backend;
 use cj_control::Control;
 use cj_core::Shared;
@@ -41,6 +47,9 @@ struct Run<'a, J: Naming, B: Backend, S: Store> {
     plan: Plan,
     began: Instant,
     orphans: Orphans,
+    /// How many backends there are.
+    backends: u8,
+    ghost few: { backends ≤ length J.layout.names },
 }
 
 fn is_over<R: Clock>(rt: &R, began: Instant, seconds: u64) -> bool {
@@ -81,10 +90,19 @@ fn do_one<J: Naming, B: Backend, S: Store + Drop, R: Wait + Clock>(
     let pass = &mut job.pass;
     if job.number == 0 {
         thread::sleep(rt, Duration::from_millis(PAUSE));
-        return administer(rt, alloc, run.control, pass, &run.orphans, draw, lines);
+        return administer(
+            rt,
+            alloc,
+            run.control,
+            pass,
+            &run.orphans,
+            run.backends,
+            draw,
+            lines,
+        );
     }
     if job.number == 1 && run.plan.plants {
-        return read_planted(rt, alloc, run.control, pass, lines);
+        return read_planted(rt, alloc, run.control, pass, draw, lines);
     }
     if draw.below(8) == 0 {
         return leave_one(rt, alloc, run, pass, draw, lines);
@@ -101,7 +119,15 @@ fn do_job<J: Naming, B: Backend, S: Store + Drop, R: Wait + Clock>(
     mut job: Job<J>,
 ) -> Option<Lines> {
     let mut lines = Lines::new(alloc);
-    let mut draw = PcgDraw::new(run.plan.seed.wrapping_mul(CLIENTS + 1).wrapping_add(job.number));
+    lines.add("thread").ok()?;
+    lines.add_number(job.number).ok()?;
+    lines.add("\n").ok()?;
+    let mut draw = PcgDraw::new(
+        run.plan
+            .seed
+            .wrapping_mul(CLIENTS + 1)
+            .wrapping_add(job.number),
+    );
     for _ in 0..u64::MAX {
         if is_over(rt, run.began, run.plan.seconds) {
             break;
@@ -128,7 +154,7 @@ fn jobs_of<J: Naming, B: Backend + Drop, S: Store + Drop>(
 /// Shares the parts of a world, has all threads do their jobs, and audits at the end.
 fn run_all<
     J: Naming + Send + Sync,
-    B: Backend + Drop + Send,
+    B: Backend + Drop + Send + Sync,
     S: Store + Drop + Send,
     R: Threads + Wait + Clock + Sync,
 >(
@@ -137,7 +163,16 @@ fn run_all<
     shared: Shared<B, S>,
     blank: Blank,
     plan: Plan,
-) -> Option<Vec<u8>> {
+    backends: u8,
+) -> Option<Vec<u8>>
+    requires world { AreOfStarted B.tells S.tells S.faults (board_id shared.board) (pass_board shared.pass) shared.book shared.recovery_log shared.cells.items shared.accounts shared.dumps }
+    requires board { board_id shared.board ≡ J.board }
+    requires layout { shared.book.state.layout ≡ J.layout }
+    requires turn { (blank.name ≡ J.turn) × (blank.parts ≡ 1) }
+    requires tells { J.tells ≡ B.tells }
+    requires emptied { (length shared.emptied.items ≡ 0) × (BACKEND_LIMIT ≤ vec_capacity shared.emptied) }
+    requires few { backends ≤ length J.layout.names }
+{
     let (control, mut pass) = Control::<J, B, S>::start(alloc, shared, blank).ok()?;
     let jobs = jobs_of(alloc, &control, &mut pass)?;
     let run = Run {
@@ -145,6 +180,7 @@ fn run_all<
         plan,
         began: Instant::now(rt).ok()?,
         orphans: Mutex::new(Vec::new(alloc)),
+        backends,
     };
     let told = thread::map_vec(rt, jobs, &|job: Job<J>| do_job(rt, alloc, &run, job)).ok()?;
     let mut lines = Lines::new(alloc);
@@ -163,10 +199,12 @@ pub fn stress<S: Store + Drop + Send, R: Threads + Wait + Clock + Sync>(
     alloc: Global,
     plan: Plan,
     log: S,
-) -> Option<Vec<u8>> {
+) -> Option<Vec<u8>>
+    requires { S.tells ≡ true → Only (S.held log) (S.may log) }
+{
     let conf = conf_of(alloc, tried(plan.placed))?;
     let count = conf.placement.count();
     let backends = tried_backends(alloc, count, plan.seed, plan.fails).ok()?;
     let shared = started(alloc, conf, log, backends)?;
-    run_all::<Brand, _, S, R>(rt, alloc, shared, Blank::new(1), plan)
+    run_all::<Brand, _, S, R>(rt, alloc, shared, Blank::new(1), plan, count)
 }
