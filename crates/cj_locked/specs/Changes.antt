@@ -21,19 +21,3 @@ pub record BringsSince (F G : List Event) (x : Event) (wanted : List Event → B
   pub m : List Event
   pub longer : IsPrefix F m
   pub at : BringsAt m x (wanted m) result G
-
--- a failure in a read came at history m, or none where something was pending; G is seen then
-abbrev pub NotesAt : List Event → Event → Result Bool BookError → List Event → Type 0
-NotesAt m x (Ok true) G = (0 < events_left m) × (G ≡ m ++ x ∷ [])
-NotesAt m x (Ok false) G = G ≡ m
-NotesAt m x (Err (InProgress n)) G = ⊥
-NotesAt m x (Err NoBackend) G = ⊥
-NotesAt m x (Err (HistoryFull n)) G = (events_left m < 1) × (n ≡ length m) × (G ≡ m)
-NotesAt m x (Err LogFault) G = ⊥
-NotesAt m x (Err NoMemory) G = ⊥
-
--- it came now, since the pass had seen F
-pub record NotesSince (F G : List Event) (x : Event) (result : Result Bool BookError) : Type 0 where
-  pub m : List Event
-  pub longer : IsPrefix F m
-  pub at : NotesAt m x result G

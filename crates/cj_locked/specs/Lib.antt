@@ -1,7 +1,11 @@
+pub mod Auditing
 pub mod Changes
+pub mod Failures
 pub mod Locked
+pub mod Looking
 pub mod Marking
 pub mod Named
+pub mod Orphans
 pub mod Passes
 pub mod Reading
 pub mod Taking

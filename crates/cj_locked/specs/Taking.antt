@@ -1,5 +1,5 @@
 -- What a backend did with an entry, and what the pass that heard of it knows.
-use Rattle.std.specs.Prelude.{◌≡◌, ℕ, ◌-◌, ◌<◌, Bool, true, Contains}
+use Rattle.std.specs.Prelude.{◌≡◌, ℕ, ◌-◌, ◌<◌, Bool, true, List, Contains}
 use Rattle.std.specs.declared.result.Result.{Result}
 use Rattle.std.specs.declared.result.Result.TheVariants.{Ok, Err}
 use Rattle.cj_model.specs.declared.request.Entry.{Entry}
@@ -10,6 +10,7 @@ use Rattle.cj_cluster.specs.declared.moves.Did.TheVariants as did
 use Rattle.cj_cluster.specs.History.Histories.{log}
 use Rattle.cj_board.specs.declared.view.SeatView.{SeatView}
 use Rattle.cj_board.specs.Points.{fault_tokens_of}
+use Rattle.cj_replica.specs.Cells.{CatchesUp, CellState}
 use Rattle.cj_replica.specs.declared.replica.Caught.{Caught}
 use Rattle.cj_replica.specs.declared.replica.Caught.TheVariants as caught
 use Rattle.cj_replica.specs.declared.replica.CellError.{CellError}
@@ -23,6 +24,12 @@ report_of (Ok caught.Skipped) = did.Skipped
 report_of (Ok (caught.Did o)) = did.Done o
 report_of (Err Failed) = did.Failed
 report_of (Err Starved) = did.Starved
+
+-- a cell carried out entry n, or skipped it, and reports so
+pub record CarriesOut (before : CellState) (n : ℕ) (e : Entry) (login : List ℕ) (d : Did) (after : CellState) : Type 0 where
+  pub caught : Result Caught CellError
+  pub catches_up : CatchesUp before n e login caught after
+  pub is : d ≡ report_of caught
 
 -- the pass has a note that backend b took entry n, or a fault token of b if it failed
 abbrev pub NotesReport : SeatView → ℕ → ℕ → Did → Type 0

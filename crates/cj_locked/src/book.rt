@@ -2,6 +2,7 @@
 
 ghost use Rattle.std.specs.Prelude.{◌≡◌, ◌-◌, ◌<◌, IfOk, IfErr, OnErr, ◌&&◌, not, ℕ, Bool, true, false, length, None, Some, IsNone, is_none, Contains};
 ghost use Rattle.cj_model.specs.Cluster.Masks.{in_mask};
+ghost use Rattle.cj_cluster.specs.History.Freshness.{IsFreshCache};
 ghost use Rattle.cj_cluster.specs.History.Histories.{is_enabled, is_free, log};
 ghost use Rattle.cj_cluster.specs.History.Legality.{IsFitEntry, IsLegal};
 ghost use Rattle.cj_place.specs.Layouts.{placement_of};
@@ -10,6 +11,7 @@ ghost use Rattle.cj_board.specs.Seats.{front, pass_view};
 ghost use Rattle.cj_book.specs.BookLogs.{LogFollows};
 ghost use Rattle.cj_book.specs.Seated.{GivesOwnPassesOnly};
 ghost use Rattle.cj_tally.specs.Tallies.{IsTallyOf};
+ghost use Rattle.cj_locked.specs.Locked.{LastIsNoted};
 ghost use Rattle.cj_locked.specs.Passes.{HasNotedMore, HasSeenMore};
 ghost use Rattle.cj_locked.specs.Taking.{NotesTally};
 ghost use Rattle.cj_locked.specs.Turns.{refusal_weight, turn_events_of};
@@ -48,7 +50,7 @@ impl<J: Naming, S: Store> Model for LockedBook<J, S> {
 
     ghost view = { λ x. record { book = x.book; log = option_map (λ t. t.log) x.turn } };
 
-    ghost invariant = { λ x. IsLocked J.board J.layout S.tells S.faults x.ledger.total (record { book = x.book; log = option_map (λ t. t.log) x.turn }) };
+    ghost invariant = { λ x. IsLocked J.board J.layout J.tells S.tells S.faults x.ledger.total (record { book = x.book; log = option_map (λ t. t.log) x.turn }) };
 }
 
 /// What the writer of an entry has while the entry is on its way into the recovery log.
@@ -81,7 +83,7 @@ pub(crate) fn refusal_weight(error: BookError) -> u64
 }
 
 /// The mask without the backends of another.
-fn without(mask: u32, other: u32) -> u32
+pub(crate) fn without(mask: u32, other: u32) -> u32
     ensures { (b : ℕ) → in_mask result b ≡ (in_mask mask b && not (in_mask other b)) }
 {
     mask & !other
@@ -113,6 +115,8 @@ impl<J: Naming, S: Store + Drop> LockedBook<J, S> {
         requires unfailed { turn_events_of book.state.history ≡ length book.state.history }
         requires total { ledger.total ≡ 0 }
         requires follows { LogFollows S.tells S.faults turn.log book.state.history }
+        requires fresh { IsFreshCache J.tells (log book.state.history) book.state.cache }
+        requires noted { LastIsNoted book.view }
         ensures { result ≡ record { book = book; log = Some turn.log } }
     {
         book.legal();
@@ -140,6 +144,7 @@ impl<J: Naming, S: Store + Drop> LockedBook<J, S> {
         ensures state { self.new.book.state ≡ self.old.book.state }
         ensures heard { (note : ℕ × ℕ) → Contains (pass_view pass.old.seat).position_notes note → Contains self.new.book.view.position_notes note }
         ensures log { self.new.log ≡ self.old.log }
+        ensures pending { self.new.book.pending ≡ self.old.book.pending }
     {
         self.book.legal();
         self.book.tell(&board.board, &mut pass.seat);

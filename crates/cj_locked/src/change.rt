@@ -1,13 +1,12 @@
 //! Events at the book that are no entries.
 
-ghost use Rattle.std.specs.Prelude.{ℕ, ◌≡◌, ◌==◌, ◌<◌, ◌&&◌, not, Bool, true, false, length, Contains, None, IfOk, is_none};
+ghost use Rattle.std.specs.Prelude.{ℕ, ◌≡◌, ◌==◌, ◌<◌, ◌&&◌, not, Bool, true, false, length, Contains, is_none};
 ghost use Rattle.cj_cluster.specs.declared.event.Event.{Event};
 ghost use Rattle.cj_cluster.specs.History.Histories.{is_enabled, log};
 ghost use Rattle.cj_cluster.specs.History.Legality.{IsLegal};
-ghost use Rattle.cj_board.specs.Points.{fault_tokens_of};
 ghost use Rattle.cj_board.specs.Seats.{front, pass_view};
-ghost use Rattle.cj_locked.specs.Changes.{BringsAt, BringsSince, NotesAt, NotesSince};
-ghost use Rattle.cj_locked.specs.Passes.{HasNotedMore, HasSeenMore};
+ghost use Rattle.cj_locked.specs.Changes.{BringsAt, BringsSince};
+ghost use Rattle.cj_locked.specs.Passes.{HasNotedMore};
 
 use crate::book::LockedBook;
 use crate::naming::Naming;
@@ -113,51 +112,5 @@ impl<J: Naming, S: Store + Drop> LockedBook<J, S> {
                 Err(error)
             }
         }
-    }
-
-    /// Notes that backend `b` failed in a read of this session, of which the pass has a fault token. False while an
-    /// entry or a marker is on its way into the recovery log: then the token is still the pass's.
-    pub fn read_failed(
-        &mut self,
-        board: &NamedBoard<J>,
-        pass: &mut Pass<J>,
-        session: u64,
-        seq: u64,
-        b: u8,
-    ) -> Result<bool, BookError>
-        requires fault { 0 < fault_tokens_of b (pass_view pass.old.seat).fault_tokens }
-        ensures notes { NotesSince (front pass.old.seat) (front pass.new.seat) (Event.ReadFailed session seq b) result }
-        ensures seen { HasSeenMore (pass_view pass.old.seat) (pass_view pass.new.seat) }
-        ensures kept { IfOk result (λ came. came ≡ false → HasNotedMore (pass_view pass.old.seat) (pass_view pass.new.seat)) }
-        ensures legal { IsLegal (front pass.new.seat) }
-        ensures told { front pass.new.seat ≡ self.new.book.state.history }
-        ensures log { self.new.log ≡ self.old.log }
-    {
-        if self.book.is_pending() {
-            self.tell(board, pass);
-            return Ok(false);
-        }
-        self.book.learn(&board.board, &mut pass.seat);
-        let noted = self.note_now(board, session, seq, b);
-        self.tell(board, pass);
-        noted
-    }
-
-    /// The same, with a book that has the token and has nothing pending, and of which no pass hears.
-    fn note_now(
-        &mut self,
-        board: &NamedBoard<J>,
-        session: u64,
-        seq: u64,
-        b: u8,
-    ) -> Result<bool, BookError>
-        requires pending { self.old.book.pending ≡ None }
-        requires fault { 0 < fault_tokens_of b self.old.book.view.fault_tokens }
-        ensures notes { NotesAt self.old.book.state.history (Event.ReadFailed session seq b) result self.new.book.state.history }
-        ensures came { IfOk result (λ came. came ≡ true) }
-        ensures log { self.new.log ≡ self.old.log }
-    {
-        self.book.read_failed(&board.board, session, seq, b)?;
-        Ok(true)
     }
 }

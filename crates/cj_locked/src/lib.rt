@@ -13,15 +13,23 @@
 mod book;
 mod cell;
 mod change;
+mod failure;
+mod hold;
+mod look;
 mod mark;
 mod naming;
+mod orphan;
 mod pass;
 mod session;
 mod turn;
 
 pub use book::{Begun, LockedBook, OpenEntry};
 pub use cell::LockedCell;
+pub use failure::ReadFailure;
+pub use hold::HeldTurn;
+pub use look::Look;
 pub use mark::BegunMarker;
 pub use naming::{Naming, TurnLedger};
+pub use orphan::BegunAbort;
 pub use pass::{NamedBoard, Pass};
 pub use turn::Turn;

@@ -3,10 +3,10 @@
 use std::marker::{Brand, PhantomData};
 use std::sync::ledger::Ledger;
 
-/// Names one board, the layout of its cluster, and the ledger of its turn.
-/// A program picks the three at one generic call, after the board was made.
+/// Names one board, the layout of its cluster, the ledger of its turn, and whether its backends tell what they hold.
+/// A program picks the four at one generic call, after the board was made.
 pub trait Naming {
-    ghost use Rattle.std.specs.Prelude.{ℕ};
+    ghost use Rattle.std.specs.Prelude.{ℕ, Bool};
     ghost use Rattle.atomic_table.specs.Seated.{TableId};
     ghost use Rattle.cj_place.specs.Layouts.{Layout};
 
@@ -15,9 +15,13 @@ pub trait Naming {
     ghost layout: { Layout };
 
     ghost turn: { ℕ };
+
+    /// Whether the backends tell what they hold, so that kept answers are known to be right.
+    ghost tells: { Bool };
 }
 
 impl Naming for Brand {
+    ghost use Rattle.std.specs.Prelude.{false};
     ghost use Rattle.cj_locked.specs.Named.{no_board, no_layout};
 
     ghost board = { no_board };
@@ -25,6 +29,8 @@ impl Naming for Brand {
     ghost layout = { no_layout };
 
     ghost turn = { 0 };
+
+    ghost tells = { false };
 }
 
 /// The ledger of the turn. It has one part, so whoever has the turn has the whole.

@@ -82,7 +82,7 @@ impl<J: Naming> NamedBoard<J> {
     }
 
     /// Shows that the session of an own pass has no more events, in what the pass has seen, than it has counted.
-    pub(crate) fn check_count(&self, pass: &mut Pass<J>)
+    pub fn check_count(&self, pass: &mut Pass<J>)
         ensures same { pass_view pass.new.seat ≡ pass_view pass.old.seat }
         ensures counted { 0 < (pass_view pass.old.seat).own_session → event_count_of (pass_view pass.old.seat).own_session (front pass.old.seat) ≤ (pass_view pass.old.seat).count }
     {
