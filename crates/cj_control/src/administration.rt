@@ -63,12 +63,7 @@ fn refusal_of(error: BookError) -> AdminError
 
 impl<J: Naming, B: Backend, S: Store + Drop> Control<J, B, S> {
     /// Waits for the turn, and disables the backend. False if it is disabled already.
-    fn disable_in_turn<R: Wait>(
-        &self,
-        rt: &R,
-        pass: &mut Pass<J>,
-        b: u8,
-    ) -> Result<bool, BookError>
+    fn disable_in_turn<R: Wait>(&self, rt: &R, pass: &mut Pass<J>, b: u8) -> Result<bool, BookError>
         requires below { b < length J.layout.names }
         ensures brings { BringsSince (front pass.old.seat) (front pass.new.seat) (Disabled b) (λ h. is_enabled h b) result }
         ensures more { HasNotedMore (pass_view pass.old.seat) (pass_view pass.new.seat) }
@@ -85,12 +80,7 @@ impl<J: Naming, B: Backend, S: Store + Drop> Control<J, B, S> {
     }
 
     /// Disables a backend, so that it takes no further entry and answers no query. Waits for the turn.
-    pub fn disable<R: Wait>(
-        &self,
-        rt: &R,
-        pass: &mut Pass<J>,
-        b: u8,
-    ) -> Result<(), AdminError>
+    pub fn disable<R: Wait>(&self, rt: &R, pass: &mut Pass<J>, b: u8) -> Result<(), AdminError>
         requires below { b < length J.layout.names }
         ensures disables { DisablesSince (front pass.old.seat) (front pass.new.seat) b result }
         ensures more { HasNotedMore (pass_view pass.old.seat) (pass_view pass.new.seat) }

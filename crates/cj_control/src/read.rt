@@ -336,11 +336,10 @@ impl<J: Naming, B: Backend, S: Store + Drop> Control<J, B, S> {
     fn wait_for_ends<R: Wait>(&self, rt: &R) {
         let book = self.book.lock(rt);
         let scheduled = book.length();
-        self.settled.wait_while(
-            rt,
-            book,
-            |locked: &mut LockedBook<J, S>| -> bool { locked.has_ended_fewer(scheduled) },
-        );
+        self.settled
+            .wait_while(rt, book, |locked: &mut LockedBook<J, S>| -> bool {
+                locked.has_ended_fewer(scheduled)
+            });
     }
 
     /// Refuses the query if each backend that serves it has failed in it. Else those of them that did not stand where

@@ -31,14 +31,16 @@ pub const STATS: &[u8] = b"\x00\x00\x00\x01\x03";
 
 /// What the configuration makes of a world.
 fn parts(rt: &impl Abort, alloc: Global) -> Result<Parts, Fail> {
-    let Ok(Conf {
-        placement,
-        accounts,
-        policy,
-        weights,
-        cache,
-        ..
-    }) = read_conf(alloc, CONF)
+    let Ok(
+        Conf {
+            placement,
+            accounts,
+            policy,
+            weights,
+            cache,
+            ..
+        },
+    ) = read_conf(alloc, CONF)
     else {
         panic!(rt; "the configuration is refused")
     };
@@ -95,12 +97,22 @@ pub fn served<J: Naming, B: Backend, S: Store + Drop, R: Wait + Abort>(
     let mut sink = MemSink::new(Vec::new(alloc), Vec::new(alloc));
     let mut draws = ListDraw::new(Vec::new(alloc));
     let clock = FixedClock::new(0);
-    serve_session(rt, alloc, &mut caller, &mut source, &mut sink, &clock, &mut draws);
+    serve_session(
+        rt,
+        alloc,
+        &mut caller,
+        &mut source,
+        &mut sink,
+        &clock,
+        &mut draws,
+    );
     control.leave(rt, caller, pass);
     sink
 }
 
 /// Whether the login of the last call of a backend is this one.
 pub fn has_login<B: Backend>(backend: &B, login: &[u8]) -> bool {
-    backend.login().map_or(false, |last| Text::as_slice(last) == login)
+    backend
+        .login()
+        .map_or(false, |last| Text::as_slice(last) == login)
 }

@@ -10,10 +10,9 @@ use cj_outside::MemStore;
 use std::alloc::Global;
 use std::marker::Brand;
 use std::process::Abort;
-use std::sync::Arc;
-use std::sync::Wait;
 use std::sync::atomic::{AtomicU64, Ordering};
 use std::sync::ledger::Blank;
+use std::sync::{Arc, Wait};
 use std::test::Fail;
 use std::thread;
 use std::thread::Threads;
@@ -84,8 +83,20 @@ fn read_both<J: Naming + Send + Sync, R: Threads + Wait + Abort + Sync>(
     let mut other = control.split(&mut pass);
     let (one, two) = thread::join(
         rt,
-        || read_one(rt, alloc, &control, &mut other, "SELECT k FROM t WHERE k = 1"),
-        || read_one(rt, alloc, &control, &mut pass, "SELECT k FROM t WHERE k = 2"),
+        || read_one(
+            rt,
+            alloc,
+            &control,
+            &mut other,
+            "SELECT k FROM t WHERE k = 1",
+        ),
+        || read_one(
+            rt,
+            alloc,
+            &control,
+            &mut pass,
+            "SELECT k FROM t WHERE k = 2",
+        ),
     );
     assert!(rt; one? == 36 && two? == 36);
     Ok(())

@@ -27,8 +27,12 @@ const TWO_ROWS: &[u8] = b"\x00\x00\x00\x09\x81\x00\x00\x00\x00\x00\x00\x00\x00\
 
 /// The replies after one that says 0 rows, and how a reply of one column `v` begins.
 const DONE: &[u8] = b"\x00\x00\x00\x09\x81\x00\x00\x00\x00\x00\x00\x00";
-const ONE_V: &[u8] = b"\x00\x00\x00\x13\x82\x00\x01\x00\x01v\x00\x00\x00\x01\x01\x00\x00\x00\x00\x00\x00\x00";
-const TWO_V: &[u8] = b"\x00\x00\x00\x1c\x82\x00\x01\x00\x01v\x00\x00\x00\x02\x01\x00\x00\x00\x00\x00\x00\x00";
+
+const ONE_V: &[u8] =
+    b"\x00\x00\x00\x13\x82\x00\x01\x00\x01v\x00\x00\x00\x01\x01\x00\x00\x00\x00\x00\x00\x00";
+
+const TWO_V: &[u8] =
+    b"\x00\x00\x00\x1c\x82\x00\x01\x00\x01v\x00\x00\x00\x02\x01\x00\x00\x00\x00\x00\x00\x00";
 
 /// Appends bytes, and one more.
 fn append(wanted: &mut Vec<u8>, bytes: &[u8], last: u8) -> Result<(), Fail> {
@@ -164,7 +168,10 @@ fn an_audit_names_the_backend_that_fails(rt: HostRuntime) -> Result<(), Fail> {
 /// What a session asks of a table, whose answers show whether they come from a backend that lies.
 fn asked(alloc: Global) -> Result<Vec<u8>, Fail> {
     let mut sent = LOGIN.to_vec(alloc)?;
-    ask(&mut sent, "CREATE TABLE t (k INTEGER PRIMARY KEY, v INTEGER)")?;
+    ask(
+        &mut sent,
+        "CREATE TABLE t (k INTEGER PRIMARY KEY, v INTEGER)",
+    )?;
     ask(&mut sent, "INSERT INTO t VALUES (1, 5)")?;
     ask(&mut sent, "SELECT v FROM t")?;
     ask(&mut sent, "SELECT v FROM t")?;
@@ -191,7 +198,11 @@ fn wrong_answers(alloc: Global) -> Result<Vec<u8>, Fail> {
     append(&mut wanted, DONE, 1)?;
     append(&mut wanted, TWO_V, 6)?;
     append(&mut wanted, b"\x01\x00\x00\x00\x00\x00\x00\x00", 8)?;
-    append(&mut wanted, b"\x00\x00\x00\x11\x83\x00\x00\x00\x00\x00\x00\x00", 2)?;
+    append(
+        &mut wanted,
+        b"\x00\x00\x00\x11\x83\x00\x00\x00\x00\x00\x00\x00",
+        2,
+    )?;
     append(&mut wanted, b"\x00\x00\x00\x00\x00\x00\x00", 4)?;
     Ok(wanted)
 }

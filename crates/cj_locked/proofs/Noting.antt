@@ -105,9 +105,11 @@ still_noted v w keeps noted =
           let seen : session_after 0 v.front ≤ session_after 0 w.front = keeps.seen in
           inl (omega (arith, low, last, seen)))
           (λ (note : (k : ℕ) × (v.last_given ≤ SESSION_NUMBER_LIMIT) × Contains v.count_notes (v.last_given, k)).
-          inr
-          (note.0, subst (λ (n : ℕ). n ≤ SESSION_NUMBER_LIMIT) (sym keeps.last) note.1,
-          subst (λ (n : ℕ). Contains w.count_notes (n, note.0)) (sym keeps.last) (keeps.notes (v.last_given, note.0) note.2))) noted.known;
+          inr (
+            note.0,
+            subst (λ (n : ℕ). n ≤ SESSION_NUMBER_LIMIT) (sym keeps.last) note.1,
+            subst (λ (n : ℕ). Contains w.count_notes (n, note.0)) (sym keeps.last) (keeps.notes (v.last_given, note.0) note.2),
+          )) noted.known;
     }
 
 -- a session was opened with an own pass, of whose count the book has a note
@@ -152,11 +154,12 @@ shows_given v p q greatest n noted next all is joined seen =
     (λ (high : SESSION_NUMBER_LIMIT ≤ v.last_given).
     let within : v.last_given ≤ SESSION_NUMBER_LIMIT = note.1 in
     let last : v.last_given ≡ n = omega (arith, within, high, is) in
-    inl
-    (note.0,
-    subst (λ (z : SeatView). Contains z.count_notes (n, note.0)) (sym joined)
-    (Contains-append_right p.count_notes (pass_without_tokens v).count_notes (n, note.0)
-    (Contains-append_left v.count_notes _ (n, note.0) (subst (λ (m : ℕ). Contains v.count_notes (m, note.0)) last note.2)))))
+    inl (
+      note.0,
+      subst (λ (z : SeatView). Contains z.count_notes (n, note.0)) (sym joined)
+          (Contains-append_right p.count_notes (pass_without_tokens v).count_notes (n, note.0)
+          (Contains-append_left v.count_notes _ (n, note.0) (subst (λ (m : ℕ). Contains v.count_notes (m, note.0)) last note.2))),
+    ))
     (cases_lt v.last_given SESSION_NUMBER_LIMIT)) noted.known
   where
     g : ℕ

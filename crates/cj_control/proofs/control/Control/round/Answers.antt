@@ -25,7 +25,7 @@ returns-in-Ok-Kept-clause-ended g c = λ F before all.
     let answer = c.in-Ok-Kept.answer in
     let looked = look_is g.J.Naming.tells g.B.Backend.tells p m query.tx query.select.now query.least tried c.in-Ok-Kept.field-0 (Kept answer c.in-Ok-Kept.at) c.args.self.now.told c.in-Ok-Kept.field-0-is c.in-Ok-Kept.ensures.look in
     let came : ((c.reply_kept.result.0 ≡ Rows answer.value) × (c.reply_kept.result.1 ≡ c.in-Ok-Kept.at)) ⊎ ((c.reply_kept.result.0 ≡ Refused (refusal_of_code NO_MEMORY)) × (c.reply_kept.result.1 ≡ query.least)) =
-        subst (λ (x : Answer). ((c.reply_kept.result.0 ≡ Rows x) × (c.reply_kept.result.1 ≡ c.in-Ok-Kept.at)) ⊎ ((c.reply_kept.result.0 ≡ Refused (refusal_of_code NO_MEMORY)) × (c.reply_kept.result.1 ≡ query.least))) c.deref.ensures c.reply_kept.ensures
+    subst (λ (x : Answer). ((c.reply_kept.result.0 ≡ Rows x) × (c.reply_kept.result.1 ≡ c.in-Ok-Kept.at)) ⊎ ((c.reply_kept.result.0 ≡ Refused (refusal_of_code NO_MEMORY)) × (c.reply_kept.result.1 ≡ query.least))) c.deref.ensures c.reply_kept.ensures
     in
     ends_kept g.B.Backend.tells p F m query.session query.seq query.tx query.select.now query.least answer.value c.in-Ok-Kept.at c.reply_kept.result.0 c.reply_kept.result.1
     (prefix_trans F (front c.args.pass.now.seat) m before c.look_for-looked.ensures.more.seen.front) looked.0 looked.1 came

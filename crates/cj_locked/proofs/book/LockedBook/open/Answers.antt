@@ -65,10 +65,11 @@ returns-in_err-session-clause-cause g c = λ n is.
     let old = c.self.inside.book in
     let told = c.tell.new.self in
     let noted : LastIsNoted told.view = still_noted old.view told.view (keeps_learning old.view (pass_without_tokens (pass_view c.args.pass.now.seat)) told.view c.tell.ensures.book) c.self.invariant.noted in
-    let all : HasGivenAll told.state n = (error_again (SessionsFull n) (HasGivenAll told.state n) c.open_own.result (c.open_own.ensures.full n) c.in_err-session.field-0.0 c.in_err-session.was c.from_residual.result c.from_residual.ensures.1).0 is in
-    (all.number,
-    shows_given told.view (pass_view c.args.pass.now.seat) (pass_view c.tell.new.p) told.state.greatest n noted (c.tell.ensures.still_gives c.self.invariant.gives) all.last all.number c.tell.ensures.pass
-    (c.tell.ensures.told ∙ (sym c.legal.ensures.front ∙ sym (ap (λ (x : SeatView). x.front) c.tell.ensures.book))))
+    let all : HasGivenAll told.state n = (error_again (SessionsFull n) (HasGivenAll told.state n) c.open_own.result (c.open_own.ensures.full n) c.in_err-session.field-0.0 c.in_err-session.was c.from_residual.result c.from_residual.ensures.1).0 is in (
+      all.number,
+      shows_given told.view (pass_view c.args.pass.now.seat) (pass_view c.tell.new.p) told.state.greatest n noted (c.tell.ensures.still_gives c.self.invariant.gives) all.last all.number c.tell.ensures.pass
+          (c.tell.ensures.told ∙ (sym c.legal.ensures.front ∙ sym (ap (λ (x : SeatView). x.front) c.tell.ensures.book))),
+    )
 
 pub returns-clause-pass : goal.returns-clause-pass
 returns-clause-pass g c = noted_joined (pass_view c.args.pass.now.seat) (pass_without_tokens c.tell.new.self.view) (pass_view c.tell.new.p) c.tell.ensures.pass c.tell.ensures.longer
