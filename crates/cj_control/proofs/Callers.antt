@@ -57,7 +57,7 @@ counts_none v w u s p q own none few =
 pub none_newer : (s : ℕ) (h : List Event) → 0 < s → IsLegal h → event_count_of s h ≡ 0 → AreUpTo s 0 (log h)
 none_newer s h some legal none =
     let few : event_count_of s h ≤ event_count_of s [] = omega (arith, none) in
-    (read_leaves s [] h some legal (h, refl) few).2 0 All-nil
+    (read_leaves s [] h some legal (h, refl) few).2 0 (All-nil (λ (d : Entry). d.session ≡ s → d.seq ≤ 0))
 
 -- ---- the session's next entry
 
