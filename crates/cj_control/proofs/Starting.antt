@@ -1,7 +1,8 @@
 -- What the parts of a world that has started give, and cells and backends in a row.
-use Rattle.std.proofs.Common.{◌≡◌, ℕ, ◌+◌, ◌<◌, ◌≤◌, Bool, true, cond, suc, List, [], ◌∷◌, ◌++◌, All, length, map, get_or, refl, ap, sym, ◌∙◌, subst, arith, length-append}
-use Rattle.std.proofs.lemmas.List.{get_or-map, length-map}
-use Rattle.std.proofs.lemmas.List.Elements.{All-from_get_or, All-nil}
+use Rattle.std.proofs.Common.{◌≡◌, ℕ, ◌+◌, ◌<◌, ◌≤◌, Bool, true, cond, suc, List, [], ◌∷◌, ◌++◌, All, Option, Some, length, map, get_or, refl, ap, sym, ◌∙◌, subst, arith, length-append}
+use mathlib.Core.List.{IsPrefix}
+use Rattle.std.proofs.lemmas.List.{get_or-map, length-map, nil_from_length}
+use Rattle.std.proofs.lemmas.List.Elements.{All-from_get_or, All-nil, All-pop, All-same, All-weaker}
 use Rattle.std.proofs.lemmas.List.Sums.{sum_by-append, sum_by-cons}
 use Rattle.atomic_table.specs.Seated.{TableId}
 use Rattle.cj_auth.specs.Admission.{Register}
@@ -10,12 +11,14 @@ use Rattle.cj_book.specs.Seated.{GivesOwnPassesOnly, SeatedBook}
 use Rattle.cj_cluster.specs.declared.event.Event.{Event}
 use Rattle.cj_cluster.specs.declared.event.Event.TheVariants.{Enabled, Ended, Marker, Sched}
 use Rattle.cj_cluster.specs.History.Freshness.{IsFreshCache}
-use Rattle.cj_cluster.specs.History.Histories.{is_free, log}
+use Rattle.cj_cluster.specs.History.Histories.{database_after, is_enabled, is_free, log}
+use Rattle.cj_cluster.proofs.Pushed.{prefix_trans}
 use Rattle.cj_cluster.specs.Moves.Moves.{entry_numbered, user_of}
 use Rattle.cj_dump.specs.declared.dump.Dump.{Dump}
 use Rattle.cj_model.specs.declared.request.Act.TheVariants.{Abort}
 use Rattle.cj_model.specs.declared.request.Entry.{Entry}
-use Rattle.cj_model.specs.Cluster.Placements.{Placement}
+use Rattle.cj_model.specs.declared.database.Slot.{Slot}
+use Rattle.cj_model.specs.Cluster.Placements.{Placement, part}
 use Rattle.cj_place.specs.Layouts.{placement_of}
 use Rattle.cj_recovery.specs.Openings.{IsOpening}
 use Rattle.cj_replica.specs.Cells.{CellState}
@@ -23,7 +26,7 @@ use Rattle.cj_replica.specs.Seated.{SeatedCell}
 use Rattle.cj_start.specs.Started.{with_abort, AbortsEach}
 use Rattle.cj_state.specs.Seats.{states_of}
 use Rattle.cj_locked.specs.Turns.{needs_turn, turn_events_of}
-use Rattle.cj_control.specs.Starting.{AreOfStarted, FallTo, HoldFrom}
+use Rattle.cj_control.specs.Starting.{AreOfStarted, FallTo, HoldFrom, IsCurrentAt}
 
 -- ---- a start brings only events that need the turn
 
@@ -118,7 +121,39 @@ module _ {X : Type 0} (number : X → ℕ) where
       let long : length (xs ++ x ∷ []) ≡ length xs + 1 = length-append xs (x ∷ []) in
       let later : FallTo number (k + 1) xs × (number x ≡ k) = fall_pop k xs x falls.1 in ((omega (arith, first, long), later.0), later.1)
 
+  pub fall_none : (k : ℕ) (xs : List X) → length xs ≡ 0 → FallTo number k xs
+  fall_none k [] none = tt
+  fall_none k (x ∷ xs) none = absurd (let some : suc (length xs) ≡ 0 = none in omega (arith, some))
+
 module _ {X : Type 0} (P : ℕ → X → Type 0) where
   pub hold_push : (k : ℕ) (xs : List X) (x : X) → HoldFrom P k xs → P (k + length xs) x → HoldFrom P k (xs ++ x ∷ [])
   hold_push k [] x holds one = (subst (λ n. P n x) (let is : k + 0 ≡ k = omega arith in is) one, tt)
   hold_push k (y ∷ xs) x holds one = (holds.0, hold_push (k + 1) xs x holds.1 (subst (λ n. P n x) (let is : k + suc (length xs) ≡ k + 1 + length xs = omega arith in is) one))
+
+-- the element at the end goes from one list to the end of the other
+module _ {X Y : Type 0} (left now : List X) (x : X) (to to_now : List Y) (y : Y) (n : ℕ) (from : List X) (is : from ≡ left ++ x ∷ []) (count : length to + length from ≡ n) where
+  long : length from ≡ length left + 1
+  long = ap (λ (l : List X). length l) is ∙ length-append left (x ∷ [])
+
+  pub moves_room : (room : ℕ) → n ≤ room → length to < room
+  moves_room room enough = let l = long in omega (arith, l, count, enough)
+
+  pub moves_one : to_now ≡ to ++ y ∷ [] → length to_now + length left ≡ n
+  moves_one pushed =
+      let more : length to_now ≡ length to + 1 = ap (λ (l : List Y). length l) pushed ∙ length-append to (y ∷ []) in
+      let l = long in omega (arith, more, l, count)
+
+pub all_pop : {X : Type 0} (P : X → Type 0) (xs left : List X) (x : X) → xs ≡ left ++ x ∷ [] → All P xs → All P left × P x
+all_pop P xs left x is all = All-pop P xs left (Some x) is all
+
+pub all_none : {X : Type 0} (P : X → Type 0) (xs : List X) → length xs ≡ 0 → All P xs
+all_none P xs none = All-same P xs [] (nil_from_length xs none) (All-nil P)
+
+-- what was seen is in front of a pass that has seen more
+pub all_seen : {X : Type 0} (f : X → List Event) (g h : List Event) (xs : List X) → IsPrefix g h → All (λ x. IsPrefix (f x) g) xs → All (λ x. IsPrefix (f x) h) xs
+all_seen f g h xs longer all = All-weaker (λ x. IsPrefix (f x) g) (λ x. IsPrefix (f x) h) (λ x seen. prefix_trans (f x) g h seen longer) xs all
+
+pub current_at : (tells : Bool) (p : Placement) (g h : List Event) (b k : ℕ) (told : Option (List Slot)) → g ≡ h → b ≡ k
+    → (tells ≡ true → is_free g ≡ true → is_enabled g b ≡ true → told ≡ Some (part p b (database_after (log g) (length (log g))))) → IsCurrentAt tells p h k told
+current_at tells p g h b k told same number held =
+    subst (λ (x : List Event). IsCurrentAt tells p x k told) same (subst (λ n. IsCurrentAt tells p g n told) number held)
