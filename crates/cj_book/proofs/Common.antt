@@ -8,8 +8,7 @@ pub use Rattle.cj_book.specs.BookLogs.{BookLogState, HasCountedLogFaults, LogFol
 pub use Rattle.cj_book.specs.Books.{BookState, IsKeptIn, IsOfGiven, IsOfKnown, log_failed_after, has_session, is_orphan, is_orphan_of, is_target_at, last_write_failed, marker_in, markers_of, placement_at}
 pub use Rattle.cj_book.specs.Counters.{CanCount, book_after, hearing, own_view, pass_after}
 pub use Rattle.cj_book.specs.Found.{IsRecovered}
-pub use Rattle.cj_book.specs.Kept.{Follows, IsKeptSession, KeepsEntries, KeepsTransactions}
-pub use Rattle.cj_book.specs.Lists.{IsIndexOf, TransactionList, book_session, numbered, session_number, sessions_after, transactions_after, tx_number, without}
+pub use Rattle.cj_book.specs.Kept.{Follows, KeepsEntries}
 pub use Rattle.cj_book.specs.Seated.{SeatedBook, event_or_fault, told_book, told_pass}
 pub use Rattle.cj_book.specs.Pendings.{AwaitsEntry, AwaitsMarker, KeepsPending}
 pub use Rattle.cj_book.specs.Starts.{Starts, greatest_session}
@@ -19,8 +18,6 @@ pub use Rattle.cj_book.specs.declared.error.BookError.TheVariants.{HistoryFull, 
 pub use Rattle.cj_book.specs.declared.pending.Pending.{Pending}
 pub use Rattle.cj_book.specs.declared.pending.Prepared.{Prepared}
 pub use Rattle.cj_book.specs.declared.recovered.Recovered.{Recovered}
-pub use Rattle.cj_book.specs.declared.sessions.BookSession.{BookSession}
-pub use Rattle.cj_book.specs.declared.transactions.OpenTransaction.{OpenTransaction}
 pub use Rattle.cj_cluster.proofs.Pushed.{enabled-push, get_seam, legal_prefix, legal_push, log-same, log-sched, opened-free, take_whole}
 pub use Rattle.cj_cluster.proofs.TransactionLaws.{legal_fit}
 pub use Rattle.cj_cluster.proofs.Common.{HasServer, bytes_eq, in_mask, list_any, request_of}
@@ -44,12 +41,15 @@ pub use Rattle.cj_recovery.specs.Openings.{HasBadEntry, IsOpening, OpensTo, entr
 pub use Rattle.cj_outside.specs.Causes.{next}
 pub use Rattle.cj_outside.specs.Stores.{LeavesOnly}
 pub use Rattle.cj_place.proofs.Common.{Layout, bytes_eq-Decides, placement_of}
+pub use Rattle.cj_transactions.specs.Kept.{IsKeptSession, KeepsTransactions}
+pub use Rattle.cj_transactions.specs.Lists.{book_session, numbered, session_number, sessions_after, transactions_after, tx_number, without}
+pub use Rattle.cj_transactions.specs.declared.sessions.BookSession.{BookSession}
+pub use Rattle.cj_transactions.specs.declared.transactions.OpenTransaction.{OpenTransaction}
 pub use Rattle.cj_usage.specs.Changed.{table_changed}
 pub use Rattle.std.proofs.lemmas.Bool.{and_parts, both_ways, cases_lt, eq-eqb, eqb-false, le-leb}
 pub use Rattle.std.proofs.lemmas.List.{append-nil}
-pub use Rattle.std.proofs.lemmas.List.Elements.{All-head, All-nil, All-push, All-tail, All-weaker, filter_map-append}
-pub use Rattle.std.proofs.lemmas.List.Sorted.{answers_always}
+pub use Rattle.std.proofs.lemmas.List.Elements.{All-head, All-push, All-tail, All-weaker, filter_map-append}
 pub use Rattle.std.proofs.lemmas.List.Sums.{fold-append}
 pub use Rattle.std.proofs.lemmas.Map.Text.{is_eq-slice_cmp}
-pub use Rattle.std.proofs.lemmas.Option.{get_or_from_slice_get, slice_get-get_or, slice_get_within}
+pub use Rattle.std.proofs.lemmas.Option.{get_or_from_slice_get, slice_get-get_or}
 pub use Rattle.std.specs.Prelude.{IfErr, IsErrAnd}

@@ -6,9 +6,10 @@ use Rattle.cj_model.specs.Cluster.Caching.{CacheState}
 use Rattle.cj_model.specs.Cluster.Balancing.{Balance}
 use Rattle.cj_cluster.specs.History.Histories.{scheduled_entry, is_end_event, log, ended_count, is_free, open_entry_of, is_enabled, events_left, markers, tx_of}
 use Rattle.cj_cluster.proofs.Pushed.{enabled-push, log-sched, log-same, legal_push, opened-sched, opened-same, opened-free, opened-ended}
-use Rattle.cj_book.specs.Kept.{IsKeptSession, KeepsSessions, KeepsTransactions, KeepsTargets, Follows}
-use Rattle.cj_book.proofs.Numbered.{found_among, found_holds, found_number, member_holds}
-use Rattle.cj_book.proofs.TransactionSteps.{EndsOf, own_end, numbered_entry, concerns_push, sessions_opened, sessions_push, transactions_push}
+use Rattle.cj_book.specs.Kept.{KeepsTargets, Follows}
+use Rattle.cj_transactions.specs.Kept.{IsKeptSession, KeepsSessions, KeepsTransactions}
+use Rattle.cj_transactions.proofs.Numbered.{found_among, found_holds, found_number, member_holds}
+use Rattle.cj_transactions.proofs.TransactionSteps.{EndsOf, own_end, numbered_entry, concerns_push, sessions_opened, sessions_push, transactions_push}
 
 -- the targets of an entry, where nothing changed for it
 target_same : (p : Placement) (g h : List Event) (o : Option Entry) (k : ℕ) → is_enabled g k ≡ is_enabled h k → log g ≡ log h → is_target_at p g o k ≡ is_target_at p h o k

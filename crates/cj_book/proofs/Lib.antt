@@ -7,7 +7,7 @@ pub mod Keeping
 pub mod LogFollowing
 pub mod Logged
 pub mod Marked
-pub mod Numbered
+pub mod Orphans
 pub mod Owned
 pub mod Owners
 pub mod Pendings
@@ -15,5 +15,4 @@ pub mod Recovering
 pub mod Scheduling
 pub mod Serving
 pub mod Starting
-pub mod TransactionSteps
 pub mod Written

@@ -19,7 +19,7 @@ use Rattle.cj_board.specs.Steps.{after_append}
 use Rattle.cj_book.specs.Seated.{event_or_fault, own_book_after, own_opened, own_pass_after, view_after, SeatedBook}
 use Rattle.cj_book.proofs.Announcing.{failures_same}
 use Rattle.cj_book.proofs.Counted.{opening_unfailed}
-use Rattle.cj_book.proofs.TransactionSteps.{numbered_entry}
+use Rattle.cj_transactions.proofs.TransactionSteps.{numbered_entry}
 
 -- ---- one event more of a session
 

@@ -10,7 +10,7 @@ use Rattle.cj_cluster.specs.Moves.Cores.{is_entry_of}
 use Rattle.cj_board.specs.Counting.{ends_transaction_of}
 use Rattle.cj_book.specs.Books.{IsOpenSession}
 use Rattle.cj_book.specs.Seated.{IsCounted, OwnersAreOpen, SeatedBook}
-use Rattle.cj_book.proofs.Numbered.{numbers_without}
+use Rattle.cj_transactions.proofs.Numbered.{numbers_without}
 use Rattle.cj_book.proofs.Owned.{counts_more, failure_counts}
 
 -- ---- where a session is opened or closed

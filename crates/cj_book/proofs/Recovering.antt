@@ -12,7 +12,7 @@ use Rattle.cj_book.proofs.Marked.{marked_sched}
 use Rattle.cj_cluster.specs.History.Transactions.{AreFitBehind}
 use Rattle.cj_model.specs.declared.limits.TheConstants.{SESSION_NUMBER_LIMIT}
 use Rattle.cj_book.proofs.Announcing.{opening_off}
-use Rattle.cj_book.proofs.TransactionSteps.{transactions_push}
+use Rattle.cj_transactions.proofs.TransactionSteps.{transactions_push}
 
 -- ---- the greatest session number
 

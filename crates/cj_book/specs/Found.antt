@@ -11,7 +11,7 @@ use Rattle.cj_book.specs.declared.recovered.Recovered.{Recovered}
 use Rattle.cj_book.specs.declared.error.StartError.{StartError}
 use Rattle.cj_book.specs.declared.error.StartError.TheVariants.{StoreFault, BadRecord, BadEntry, NoMemory}
 use Rattle.cj_book.specs.Books.{markers_of}
-use Rattle.cj_book.specs.Kept.{KeepsTransactions}
+use Rattle.cj_transactions.specs.Kept.{KeepsTransactions}
 use Rattle.cj_book.specs.Starts.{greatest_session}
 
 -- what was found has the history's entries, open transactions, markers and greatest session number

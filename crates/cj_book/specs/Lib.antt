@@ -4,7 +4,6 @@ pub mod Counters
 pub mod Events
 pub mod Found
 pub mod Kept
-pub mod Lists
 pub mod Pendings
 pub mod Refusals
 pub mod Seated

@@ -18,8 +18,6 @@ use crate::book_log::BookLog;
 use crate::error::StartError;
 use crate::pending::Pending;
 use crate::recovered::recover;
-use crate::sessions::BookSessions;
-use crate::transactions::OpenTransactions;
 use cj_balance::Balancer;
 use cj_board::{Board, BookSeat};
 use cj_cache::Cache;
@@ -29,6 +27,7 @@ use cj_outside::Store;
 use cj_place::Placement;
 use cj_records::RecordsError;
 use cj_recovery::OpeningError;
+use cj_transactions::{BookSessions, OpenTransactions};
 use std::alloc::Global;
 use std::marker::Model;
 use std::snapshot::Snapshot;
@@ -77,9 +76,9 @@ impl Model for Book {
     ghost use Rattle.std.specs.Prelude.{◌-◌, length, map, vec_capacity};
     ghost use Rattle.cj_board.specs.Seats.{book_board, book_view};
     ghost use Rattle.cj_book.specs.Kept.{IsKeptBook};
-    ghost use Rattle.cj_book.specs.Lists.{session_number};
     ghost use Rattle.cj_book.specs.Pendings.{KeepsPending};
     ghost use Rattle.cj_book.specs.Seated.{SeatedBook};
+    ghost use Rattle.cj_transactions.specs.Lists.{session_number};
 
     ghost Value = { SeatedBook };
 

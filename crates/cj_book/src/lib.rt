@@ -1,6 +1,7 @@
 //! The scheduler's state: the recovery log, and what follows from its history of events.
 //!
-//! A `Book` knows the open entry and its targets, enabled backends, sessions, transactions and markers.
+//! A `Book` knows the open entry and its targets, enabled backends and markers.
+//! It has the open sessions and transactions as the lists of `cj_transactions`, and hands them each entry.
 //! It also holds the placement of tables, the balancer of reads and the cache of answers.
 //! Each event goes to the board in the call that brings it. No second list of events is kept.
 //! Contracts promise that the log's items are the history's entries and markers, also after a crash.
@@ -23,13 +24,12 @@ mod pending;
 mod reading;
 mod recovered;
 mod schedule;
-mod sessions;
 mod sessions_and_cache;
 mod touching;
-mod transactions;
 
 pub use book::{Book, BookParts};
 pub use book_log::BookLog;
+pub use cj_cache::SharedAnswer;
 pub use counter::Counter;
 pub use error::{BookError, OwnError, SessionsFull, StartError};
 pub use pending::{BegunEntry, Pending, Prepared};

@@ -12,16 +12,16 @@ ghost use Rattle.cj_place.specs.Layouts.{placement_of};
 ghost use Rattle.cj_board.specs.Seats.{board_id, book_board, book_view, history};
 ghost use Rattle.cj_board.specs.Steps.{after_append};
 ghost use Rattle.cj_book.specs.Found.{IsRecovered};
-ghost use Rattle.cj_book.specs.Lists.{tx_number};
 ghost use Rattle.cj_book.specs.Seated.{CanCome};
+ghost use Rattle.cj_transactions.specs.Lists.{tx_number};
 
-use crate::transactions::OpenTransactions;
 use cj_board::{Board, BookSeat};
 use cj_cluster::{BoxedEntry, Event};
 use cj_log::{LogItem, LogMarker};
 use cj_model::NoMemory;
 use cj_place::Placement;
 use cj_recovery::{OpeningError, opening};
+use cj_transactions::OpenTransactions;
 use std::alloc::Global;
 
 /// What the book keeps of the events that were read so far.

@@ -1,14 +1,14 @@
 //! The result cache.
 
-ghost use Rattle.std.specs.Prelude.{◌≡◌, true, not, ℕ, [], ◌∷◌, filter, is_some, take, option_copied, IfOk, OnOk, OnErr};
+ghost use Rattle.std.specs.Prelude.{◌≡◌, true, not, ℕ, [], ◌∷◌, filter, is_some, take, option_copied, option_map, IfOk, OnOk, OnErr};
 ghost use Rattle.cj_model.specs.Cluster.Caching.{brought_to_front, counted_up, without_tables, empty_cache, cached_entry, has_answer, after_look, after_keep, without};
 ghost use Rattle.cj_model.specs.declared.cached.Cached.{Cached};
 ghost use Rattle.cj_model.specs.Cluster.Caching as caching;
-ghost use Rattle.cj_cache.specs.Kept.{HasCapacity, entries_held};
+ghost use Rattle.cj_cache.specs.Kept.{HasCapacity, entries_held, kept_parts, shared_parts};
 ghost use Rattle.cj_cache.specs.Proving.ByTable.{AreListed};
 
 use crate::by_table::ByTable;
-use crate::held::{self, Held};
+use crate::held::{self, Held, SharedAnswer};
 use cj_model::{Answer, Cached, NoMemory, Select, TableSet};
 use lru::LruCache;
 use std::alloc::Global;
@@ -144,6 +144,19 @@ impl Cache {
         match &self.held {
             None => None,
             Some(held) => held::answer_of(held, select),
+        }
+    }
+
+    /// A share of the kept answer of exactly this statement; `None` if none is kept. Counts nothing.
+    ///
+    /// Under a lock a share is taken in constant time, and the rows are copied after. The answer stays readable when
+    /// the cache drops it. Fails only where the share can't be counted.
+    pub fn shared(&self, select: &Select) -> Result<Option<SharedAnswer>, NoMemory>
+        ensures { IfOk result (λ shared. option_map shared_parts shared ≡ option_map kept_parts (cached_entry select.now self.now.entries)) }
+    {
+        match &self.held {
+            None => Ok(None),
+            Some(held) => held::share_of(held, select),
         }
     }
 

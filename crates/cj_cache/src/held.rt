@@ -1,22 +1,36 @@
 //! The map of a cache: statements with their answers, the most recently used first.
+//!
+//! Answers are shared. A reader that holds a lock takes a share in constant time, and copies the rows after it.
 
-ghost use Rattle.std.specs.Prelude.{◌≡◌, false, not, [], ◌∷◌, All, filter, is_some, option_copied, option_map, take, OnOk, OnErr};
+ghost use Rattle.std.specs.Prelude.{◌≡◌, false, not, [], ◌∷◌, All, filter, is_some, option_copied, option_map, take, IfOk, OnOk, OnErr};
 ghost use Rattle.std.specs.List.{list_any};
 ghost use Rattle.std.specs.Str.{bytes_eq};
 ghost use Rattle.cj_model.specs.Cluster.Caching.{brought_to_front, cached_entry, without};
 ghost use Rattle.cj_model.specs.Cluster.Caching as caching;
-ghost use Rattle.cj_cache.specs.Kept.{entries_of_map, without_each};
+ghost use Rattle.cj_cache.specs.Kept.{cached, entries_of_map, kept_parts, shared_parts, without_each};
 ghost use Rattle.cj_cache.specs.Proving.ByTable.{AreListed, listed};
 
 use crate::by_table::{self, ByTable};
 use cj_model::{Answer, Cached, Name, NoMemory, Select, TableSet};
 use lru::LruCache;
 use std::alloc::Global;
+use std::sync::Arc;
 
-/// What the map has for a statement: its answer, and the log position of the answer.
+/// What the map has for a statement: its answer, and the log position of the answer. The answer is shared, so that a
+/// reader can take it along in constant time.
 #[derive(Drop)]
 pub struct Held {
-    pub answer: Answer,
+    pub answer: Arc<Answer, Global>,
+    pub at: u64,
+}
+
+/// A kept answer that is shared with the cache, and the log position at which it was answered.
+///
+/// A share is taken under a lock in constant time. The rows are copied after the lock is given back, so a large answer
+/// holds nobody up. The share stays readable when the cache drops its own.
+#[derive(Drop)]
+pub struct SharedAnswer {
+    pub answer: Arc<Answer, Global>,
     pub at: u64,
 }
 
@@ -26,7 +40,27 @@ pub fn answer_of<'a>(held: &'a LruCache<Select, Held>, select: &Select) -> Optio
 {
     match held.peek(select) {
         None => None,
-        Some(found) => Some(&found.answer),
+        Some(found) => Some(&*found.answer),
+    }
+}
+
+/// A share of the answer of a statement; `None` if the map has none. Fails only where the share can't be counted.
+#[tactic(auto, using(crate::proofs::Maps::share_shown))]
+pub fn share_of(
+    held: &LruCache<Select, Held>,
+    select: &Select,
+) -> Result<Option<SharedAnswer>, NoMemory>
+    ensures { IfOk result (λ shared. option_map shared_parts shared ≡ option_map kept_parts (cached_entry select.now (entries_of_map held.now))) }
+{
+    match held.peek(select) {
+        None => Ok(None),
+        Some(found) => {
+            let answer = Arc::try_clone(&found.answer)?;
+            Ok(Some(SharedAnswer {
+                answer,
+                at: found.at,
+            }))
+        }
     }
 }
 
@@ -57,19 +91,40 @@ fn unlist_unkept(held: &LruCache<Select, Held>, by_table: &mut ByTable, select: 
     }
 }
 
-/// Puts an entry in front, in place of the one of its statement or of the last of a full cache.
-/// Answers the statement of the entry that went. Out of memory leaves the map, and gives the new statement back.
-fn push_front(held: &mut LruCache<Select, Held>, entry: Cached) -> Result<Option<Select>, Select>
-    ensures ok { OnOk result (entries_of_map held.new ≡ take held.old.cap (entry ∷ without entry.select (entries_of_map held.old))) }
+/// Puts a statement and what is held of it in front, in place of the one of its statement or of the last of a full
+/// cache. Answers the statement of the entry that went. Out of memory leaves the map, and gives the new statement back.
+fn push_held(
+    held: &mut LruCache<Select, Held>,
+    select: Select,
+    kept: Held,
+) -> Result<Option<Select>, Select>
+    ensures ok { OnOk result (entries_of_map held.new ≡ take held.old.cap (cached (select, kept) ∷ without select (entries_of_map held.old))) }
     ensures err { OnErr result (held.new ≡ held.old) }
     ensures capacity { held.new.cap ≡ held.old.cap }
 {
     let _len = held.len();
-    let Cached { select, answer, at } = entry;
-    match held.push(select, Held { answer, at }) {
+    match held.push(select, kept) {
         Ok(gone) => Ok(gone.map(|(select, _)| select)),
         Err(refused) => Err(refused.value.0),
     }
+}
+
+/// Puts an entry in front, and makes its answer one that can be shared.
+/// Answers the statement of the entry that went. Out of memory leaves the map, and gives the new statement back.
+fn push_front(
+    alloc: Global,
+    held: &mut LruCache<Select, Held>,
+    entry: Cached,
+) -> Result<Option<Select>, Select>
+    ensures ok { OnOk result (entries_of_map held.new ≡ take held.old.cap (entry ∷ without entry.select (entries_of_map held.old))) }
+    ensures err { OnErr result (held.new ≡ held.old) }
+    ensures capacity { held.new.cap ≡ held.old.cap }
+{
+    let Cached { select, answer, at } = entry;
+    let Ok(answer) = Arc::new(alloc, answer) else {
+        return Err(select);
+    };
+    push_held(held, select, Held { answer, at })
 }
 
 /// Puts an entry in front, in place of the one of its statement or of the last of a full cache.
@@ -91,7 +146,7 @@ pub fn put_front(
         unlist_unkept(held, by_table, &entry.select);
         return Err(NoMemory);
     }
-    match push_front(held, entry) {
+    match push_front(alloc, held, entry) {
         Ok(None) => Ok(()),
         Ok(Some(gone)) => {
             unlist_unkept(held, by_table, &gone);

@@ -1,3 +1,5 @@
+pub mod Administration
+pub mod Auditing
 pub mod Callers
 pub mod Reading
 pub mod Starting

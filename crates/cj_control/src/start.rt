@@ -16,11 +16,11 @@ ghost use Rattle.cj_control.specs.Starting.{AreOfStarted, FallTo, HoldFrom, IsCu
 
 use crate::control::Control;
 use cj_backend::Backend;
-use cj_core::Shared;
 use cj_locked::{LockedBook, LockedCell, NamedBoard, Naming, Pass, Turn};
 use cj_model::{Duplicate, ListOf, NoMemory};
 use cj_outside::Store;
 use cj_replica::Cell;
+use cj_state::Shared;
 use std::alloc::Global;
 use std::sync::ledger::Blank;
 use std::sync::{Condvar, Mutex};

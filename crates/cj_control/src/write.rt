@@ -41,7 +41,12 @@ fn refusal_for(error: BookError) -> Refusal
 
 impl<J: Naming, B: Backend, S: Store + Drop> Control<J, B, S> {
     /// Waits for the turn, and begins the entry.
-    fn begin<R: Wait>(&self, rt: &R, pass: &mut Pass<J>, e: &Entry) -> Result<Begun<J, S>, BookError>
+    fn begin<R: Wait>(
+        &self,
+        rt: &R,
+        pass: &mut Pass<J>,
+        e: &Entry,
+    ) -> Result<Begun<J, S>, BookError>
         requires own { ((pass_view pass.old.seat).own_session ≡ e.now.session) × (0 < e.now.session) }
         requires counted { event_count_of e.now.session (front pass.old.seat) ≡ (pass_view pass.old.seat).count }
         requires fit { IsFitEntry (log (front pass.old.seat)) e.now }
@@ -94,7 +99,12 @@ impl<J: Naming, B: Backend, S: Store + Drop> Control<J, B, S> {
     }
 
     /// Waits for the turn, and schedules the entry. The log appends it while no lock is held.
-    fn schedule<R: Wait>(&self, rt: &R, pass: &mut Pass<J>, e: Entry) -> Result<OpenEntry<J, S>, BookError>
+    fn schedule<R: Wait>(
+        &self,
+        rt: &R,
+        pass: &mut Pass<J>,
+        e: Entry,
+    ) -> Result<OpenEntry<J, S>, BookError>
         requires own { ((pass_view pass.old.seat).own_session ≡ e.session) × (0 < e.session) }
         requires counted { event_count_of e.session (front pass.old.seat) ≡ (pass_view pass.old.seat).count }
         requires fit { IsFitEntry (log (front pass.old.seat)) e }
@@ -107,11 +117,13 @@ impl<J: Naming, B: Backend, S: Store + Drop> Control<J, B, S> {
         ensures legal { IsLegal (front pass.new.seat) }
     {
         match self.begin(rt, pass, &e) {
-            Ok(Begun {
-                item,
-                prepared,
-                mut turn,
-            }) => {
+            Ok(
+                Begun {
+                    item,
+                    prepared,
+                    mut turn,
+                },
+            ) => {
                 let appended = turn.append(item);
                 self.finish(rt, pass, turn, e, prepared, appended)
             }

@@ -79,12 +79,32 @@ fn write_and_read<J: Naming + Send + Sync, R: Threads + Wait + Abort + Sync>(
     let Ok(mut caller) = control.caller(rt, pass) else {
         panic!(rt; "a session")
     };
-    let _ = written(rt, alloc, &mut caller, &user, "CREATE TABLE t (k INTEGER PRIMARY KEY)");
+    let _ = written(
+        rt,
+        alloc,
+        &mut caller,
+        &user,
+        "CREATE TABLE t (k INTEGER PRIMARY KEY)",
+    );
     let mut other = control.split(pass);
     let (one, two) = thread::join(
         rt,
-        || write_one(rt, alloc, control, &mut other, "INSERT INTO t VALUES (1)", "SELECT k FROM t WHERE k = 1"),
-        || write_one(rt, alloc, control, pass, "INSERT INTO t VALUES (2)", "SELECT k FROM t WHERE k = 2"),
+        || write_one(
+            rt,
+            alloc,
+            control,
+            &mut other,
+            "INSERT INTO t VALUES (1)",
+            "SELECT k FROM t WHERE k = 1",
+        ),
+        || write_one(
+            rt,
+            alloc,
+            control,
+            pass,
+            "INSERT INTO t VALUES (2)",
+            "SELECT k FROM t WHERE k = 2",
+        ),
     );
     one?;
     two?;
@@ -101,7 +121,8 @@ fn served<J: Naming + Send + Sync, R: Threads + Wait + Abort + Sync>(
     shared: cj_core::Shared<MemBackend, MemStore>,
     blank: Blank,
 ) -> Result<(), Fail> {
-    let Ok((control, mut pass)) = Control::<J, MemBackend, MemStore>::start(alloc, shared, blank) else {
+    let Ok((control, mut pass)) = Control::<J, MemBackend, MemStore>::start(alloc, shared, blank)
+    else {
         panic!(rt; "memory")
     };
     write_and_read(rt, alloc, &control, &mut pass)?;

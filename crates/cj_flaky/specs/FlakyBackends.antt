@@ -153,6 +153,10 @@ module _ {B : Type 0} (g : Ghosts B) (old : B) where
 
 -- ---- what it tells
 
+-- what a backend tells of whose contents contracts see nothing
+abbrev pub nothing_told : Option (List Slot)
+nothing_told = None
+
 -- what contracts see of the contents: what the inner backend tells, if each change was passed on to it
 abbrev pub told_where_passed : Bool → Option (List Slot) → Option (List Slot)
 told_where_passed true told = told

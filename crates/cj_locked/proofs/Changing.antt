@@ -1,9 +1,9 @@
 -- An event that is no entry, at a book whose turn nobody has.
-use Rattle.std.proofs.Common.{◌≡◌, ℕ, ◌+◌, Bool, true, cond, List, [], ◌∷◌, ◌++◌, Contains, Option, None, Some, Result, Ok, Err, IsErrAnd, IfErr, IfSome, OnErr, refl, ap, sym, ◌∙◌, subst, arith}
+use Rattle.std.proofs.Common.{◌≡◌, ℕ, ◌+◌, Bool, true, cond, List, [], ◌∷◌, ◌++◌, Contains, Option, Result, Err, IfErr, OnErr, refl, ap, sym, ◌∙◌, subst, arith}
 use mathlib.Core.List.{IsPrefix}
 use Rattle.std.proofs.lemmas.List.Elements.{Contains-append_left, Contains-append_right}
 use Rattle.cj_cluster.specs.declared.event.Event.{Event}
-use Rattle.cj_cluster.specs.declared.event.Event.TheVariants.{Disabled, Enabled, ReadFailed}
+use Rattle.cj_cluster.specs.declared.event.Event.TheVariants.{Disabled, Enabled}
 use Rattle.cj_cluster.specs.History.Histories.{is_free}
 use Rattle.cj_cluster.proofs.Pushed.{free-same}
 use Rattle.cj_board.specs.declared.view.SeatView.{SeatView}
@@ -17,7 +17,7 @@ use Rattle.cj_book.specs.declared.error.BookError.{BookError}
 use Rattle.cj_book.specs.declared.error.BookError.TheVariants.{InProgress, NoBackend, HistoryFull, LogFault, NoMemory}
 use Rattle.cj_book.specs.declared.pending.Pending.{Pending}
 use Rattle.cj_book.proofs.LogFollowing.{log_more}
-use Rattle.cj_locked.specs.Changes.{BringsAt, BringsSince, NotesAt}
+use Rattle.cj_locked.specs.Changes.{BringsAt, BringsSince}
 use Rattle.cj_locked.specs.Locked.{IsVacant}
 use Rattle.cj_locked.specs.Turns.{needs_turn, pending_weight, turn_amount, turn_events_of}
 use Rattle.cj_locked.proofs.Turns.{turn_events_push}
@@ -73,37 +73,3 @@ refused_at {T} old new x wanted r error appends is on = by error is (subst (λ (
 -- what a pass has seen that was told before and after
 pub brought_since : (F before m n after : List Event) (x : Event) (wanted : List Event → Bool) (result : Result Bool BookError) → IsPrefix F before → before ≡ m → BringsAt m x (wanted m) result n → after ≡ n → BringsSince F after x wanted result
 brought_since F before m n after x wanted result longer same at told = record { m = m; longer = subst (IsPrefix F) same longer; at = subst (BringsAt m x (wanted m) result) (sym told) at }
-
--- ---- a failure in a read
-
--- it counts nothing
-pub read_amount : (h : List Event) (item : Option Pending) (s q b : ℕ) (H : List Event) (item' : Option Pending) → H ≡ h ++ ReadFailed s q b ∷ [] → item' ≡ item → turn_amount h item ≡ turn_amount H item'
-read_amount h item s q b H item' now same =
-    let push : turn_events_of (h ++ ReadFailed s q b ∷ []) ≡ turn_events_of h + 0 = turn_events_push h (ReadFailed s q b) in
-    let its : turn_events_of H ≡ turn_events_of (h ++ ReadFailed s q b ∷ []) = ap turn_events_of now in
-    let weight : pending_weight item' ≡ pending_weight item = ap pending_weight same in
-    omega (arith, push, its, weight)
-
-pub read_vacant : {S : Type 0} (tells : Bool) (count : S → ℕ) (old new : SeatedBook) (s q b : ℕ) → new.pending ≡ old.pending → new.state ≡ with_event old.state (ReadFailed s q b)
-    → (log : Option (BookLogState S)) → IfSome log (IsVacant tells count old) → IfSome log (IsVacant tells count new)
-read_vacant tells count old new s q b pending now None vacant = tt
-read_vacant tells count old new s q b pending now (Some l) vacant = record {
-  idle = subst (λ (x : BookState). is_free x.history ≡ true) (sym now) (free-same old.state.history (ReadFailed s q b) refl refl ∙ vacant.idle);
-  unpending = pending ∙ vacant.unpending;
-  follows = subst (λ (x : BookState). LogFollows tells count l x.history) (sym now) (log_more vacant.follows (ReadFailed s q b) (λ k. refl) (λ f. refl) refl);
-}
-
-pub unnoted_at : {T : Type 0} (old new : BookState) (x : Event) (r : Result T BookError) (error : BookError) → AppendsEvent old x r new → r ≡ Err error → NotesAt old.history x (Err error) new.history
-unnoted_at {T} old new x r error appends is = by error is (subst (λ (q : Result T BookError). IfErr q IsFull) is appends.want) (subst (λ (q : Result T BookError). OnErr q (new ≡ old)) is appends.err)
-  where
-    by : (y : BookError) → r ≡ Err y → IsFull y → new ≡ old → NotesAt old.history x (Err y) new.history
-    by (InProgress n) same full stays = full
-    by NoBackend same full stays = full
-    by (HistoryFull n) same full stays = let lacks = (appends.full n).0 same in (lacks.full, lacks.events, ap (λ (b : BookState). b.history) stays)
-    by LogFault same full stays = full
-    by NoMemory same full stays = full
-
--- the same error, handed on
-pub unnoted : (m : List Event) (x : Event) (result : Result Bool BookError) (error : BookError) (G : List Event) → IsErrAnd result (λ y. y ≡ error) → NotesAt m x (Err error) G → NotesAt m x result G
-unnoted m x (Ok came) error G is notes = absurd is
-unnoted m x (Err y) error G is notes = subst (λ (z : BookError). NotesAt m x (Err z) G) (sym is) notes

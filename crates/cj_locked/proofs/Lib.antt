@@ -1,10 +1,17 @@
+pub mod Asking
 pub mod Beginning
 pub mod Changing
 pub mod Ending
+pub mod Failing
 pub mod Finishing
 pub mod Following
+pub mod Fresh
+pub mod Holding
+pub mod Looking
 pub mod Marking
+pub mod Noting
 pub mod Opening
+pub mod Orphans
 pub mod Passes
 pub mod Reading
 pub mod Taking

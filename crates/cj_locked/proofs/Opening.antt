@@ -1,8 +1,13 @@
 -- A session that was opened, or was not.
-use Rattle.std.proofs.Common.{◌≡◌, ℕ, ◌<◌, ◌≤◌, Result, Ok, Err, IsErrAnd, IsErrOf, ap, sym, ◌∙◌, subst, arith}
+use Rattle.std.proofs.Common.{◌≡◌, ℕ, ◌<◌, ◌≤◌, Result, Ok, Err, IsErrAnd, IsErrOf, refl, ap, sym, ◌∙◌, subst, arith, ⊎_elim}
+use Rattle.std.proofs.lemmas.Bool.{cases_lt}
+use Rattle.cj_model.specs.declared.limits.TheConstants.{SESSION_NUMBER_LIMIT}
 use Rattle.cj_board.specs.declared.view.SeatView.{SeatView}
 use Rattle.cj_board.specs.Counting.{event_count_of}
 use Rattle.cj_board.specs.Views.{own_pass_of}
+use Rattle.cj_book.specs.Books.{BookState, HasGivenAll}
+use Rattle.cj_book.specs.declared.error.OwnError.{OwnError}
+use Rattle.cj_book.specs.declared.error.OwnError.TheVariants.{SessionsFull}
 
 -- its pass has counted each of its events: there is none
 pub own_counts : (v p q : SeatView) (s : ℕ) → p ≡ own_pass_of v → p.own_session ≡ s → 0 < s → q ≡ p → (0 < p.own_session → event_count_of p.own_session p.front ≤ p.count) → event_count_of s q.front ≡ q.count
@@ -24,3 +29,11 @@ module _ {V W E : Type 0} (full : E) (H : Type 0) (r : Result V E) (says : (IsEr
   -- there was none
   pub error_none : (x : V) → r ≡ Ok x → (w : W) → (IsErrOf {T = W} (Ok w) full → H) × (H → IsErrOf {T = W} (Ok w) full)
   error_none x was w = (λ q. absurd (cc q), λ h. absurd (let no : Ok x ≡ Err full = sym was ∙ says.1 h in cc no))
+
+-- where a session was opened, a number was left
+pub number_left : {V : Type 0} (b : BookState) (r : Result V OwnError) (x : V) → ((n : ℕ) → (IsErrOf r (SessionsFull n) → HasGivenAll b n) × (HasGivenAll b n → IsErrOf r (SessionsFull n))) → r ≡ Ok x → b.greatest < SESSION_NUMBER_LIMIT
+number_left b r x says was =
+    ⊎_elim
+    (λ (left : b.greatest < SESSION_NUMBER_LIMIT). left)
+    (λ (all : SESSION_NUMBER_LIMIT ≤ b.greatest). absurd (let no : Ok x ≡ Err (SessionsFull SESSION_NUMBER_LIMIT) = sym was ∙ (says SESSION_NUMBER_LIMIT).1 (record { last = all; number = refl }) in cc no))
+    (cases_lt b.greatest SESSION_NUMBER_LIMIT)

@@ -31,11 +31,11 @@ pub record IsHeldOver (G H : List Event) : Type 0 where
   pub entries : log H ≡ log G
   pub enabled : (b : ℕ) → is_enabled H b ≡ is_enabled G b
 
--- a new fault note of backend b stands above each that the pass had, or at the last value of a word
+-- a new fault note of backend b stands above each that the pass had, or the fault word rises no more
 pub record NotesFault (b : ℕ) (old new : SeatView) : Type 0 where
   pub count : ℕ
   pub noted : Contains new.fault_notes (b, count)
-  pub higher : (count ≡ max_word) ⊎ ((k : ℕ) → Contains old.fault_notes (b, k) → k < count)
+  pub higher : (max_word ≤ count) ⊎ ((k : ℕ) → Contains old.fault_notes (b, k) → k < count)
 
 -- what backend b gives at position n of the log that the pass has seen then: its part of the database there, if it tells
 -- what it holds; if it failed, the pass has noted a fault more

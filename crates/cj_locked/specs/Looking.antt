@@ -1,11 +1,11 @@
 -- What a look at the book gives a query, and what the look leaves.
-use Rattle.std.specs.Prelude.{◌≡◌, ◌≢◌, ◌⊎◌, ℕ, ◌<◌, ◌≤◌, ◌&&◌, not, Bool, true, false, List, length}
+use Rattle.std.specs.Prelude.{◌≡◌, ◌≢◌, ℕ, ◌<◌, ◌≤◌, ◌&&◌, not, Bool, true, false, List, length}
 use Rattle.std.specs.declared.result.Result.{Result}
 use Rattle.std.specs.declared.result.Result.TheVariants.{Ok, Err}
 use Rattle.cj_model.specs.declared.answer.Answer.{Answer}
 use Rattle.cj_model.specs.declared.answer.Asked.TheVariants.{Rows}
 use Rattle.cj_model.specs.declared.limits.TheConstants.{BACKEND_LIMIT}
-use Rattle.cj_model.specs.declared.limits.NoMemory.{NoMemory}
+use Rattle.cj_model.specs.declared.memory.NoMemory.{NoMemory}
 use Rattle.cj_model.specs.declared.request.Entry.{Entry}
 use Rattle.cj_model.specs.declared.request.Request.TheVariants as request
 use Rattle.cj_model.specs.declared.select.Select.{Select}
@@ -116,3 +116,14 @@ IsPickOf old serving tried owed (Kept answer n) new = ⊥
 IsPickOf old serving tried owed (Ask b n) new = (n ≡ owed) × (in_mask serving b ≡ true) × (in_mask tried b ≡ false) × (candidates : ℕ) × ((k : ℕ) → in_mask candidates k ≡ (in_mask serving k && not (in_mask tried k))) × PicksOf old new candidates b
 IsPickOf old serving tried owed (Tried mask) new = (mask ≡ serving) × (new ≡ old) × ((b : ℕ) → in_mask serving b ≡ true → in_mask tried b ≡ true)
 IsPickOf old serving tried owed Unserved new = ⊥
+
+-- the book with the query looked up in its cache
+abbrev pub with_look : BookState → Select → BookState
+with_look b select = record b { cache = after_look select b.cache }
+
+-- a hit gives the kept answer, or memory ran out for a share of it; after a miss a backend is picked
+abbrev pub IsLookUpOf : Bool → Bool → BookState → Select → ℕ → ℕ → ℕ → Result Look NoMemory → BookState → Type 0
+IsLookUpOf true tells old select serving tried owed (Ok look) new = GivesKept tells (log old.history) select owed look × (new ≡ with_look old select)
+IsLookUpOf true tells old select serving tried owed (Err e) new = new ≡ with_look old select
+IsLookUpOf false tells old select serving tried owed (Ok look) new = IsPickOf (with_look old select) serving tried owed look new
+IsLookUpOf false tells old select serving tried owed (Err e) new = ⊥

@@ -8,6 +8,7 @@ use Rattle.cj_model.specs.Cluster.Placements.{Placement}
 use Rattle.cj_cluster.specs.declared.event.Event.{Event}
 use Rattle.cj_cluster.specs.declared.event.Event.TheVariants.{Sched, LogFailed}
 use Rattle.cj_cluster.specs.History.Histories.{events_left, log}
+use Rattle.cj_cluster.specs.Moves.Moves.{entry_numbered, user_of}
 use Rattle.cj_log.specs.declared.item.LogItem.{LogItem}
 use Rattle.cj_log.specs.Items.{CanAppend}
 use Rattle.cj_recovery.specs.Openings.{entry_item}
@@ -22,6 +23,10 @@ pub record IsAbortOf (tx : ℕ) (e : Entry) : Type 0 where
   pub session : e.session ≡ 0
   pub transaction : e.tx ≡ tx
   pub aborts : e.act ≡ act.Abort
+
+-- that entry, for the user who began it
+abbrev pub abort_entry_of : List Entry → ℕ → Entry
+abort_entry_of entries tx = record { session = 0; seq = 0; tx = tx; user = user_of (entry_numbered entries tx); act = act.Abort }
 
 -- it was begun now, since the pass had seen F; this is its item for the log
 pub record BeginsAbortSince {S : Type 0} (tells : Bool) (count : S → ℕ) (p : Placement) (F G : List Event) (tx : ℕ) (e copy : Entry) (prepared : Prepared) (amount : ℕ) (l : BookLogState S) (item : LogItem) : Type 0 where

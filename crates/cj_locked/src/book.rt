@@ -11,6 +11,7 @@ ghost use Rattle.cj_board.specs.Seats.{front, pass_view};
 ghost use Rattle.cj_book.specs.BookLogs.{LogFollows};
 ghost use Rattle.cj_book.specs.Seated.{GivesOwnPassesOnly};
 ghost use Rattle.cj_tally.specs.Tallies.{IsTallyOf};
+ghost use Rattle.cj_locked.specs.Locked.{LastIsNoted};
 ghost use Rattle.cj_locked.specs.Passes.{HasNotedMore, HasSeenMore};
 ghost use Rattle.cj_locked.specs.Taking.{NotesTally};
 ghost use Rattle.cj_locked.specs.Turns.{refusal_weight, turn_events_of};
@@ -115,6 +116,7 @@ impl<J: Naming, S: Store + Drop> LockedBook<J, S> {
         requires total { ledger.total ≡ 0 }
         requires follows { LogFollows S.tells S.faults turn.log book.state.history }
         requires fresh { IsFreshCache J.tells (log book.state.history) book.state.cache }
+        requires noted { LastIsNoted book.view }
         ensures { result ≡ record { book = book; log = Some turn.log } }
     {
         book.legal();
@@ -142,6 +144,7 @@ impl<J: Naming, S: Store + Drop> LockedBook<J, S> {
         ensures state { self.new.book.state ≡ self.old.book.state }
         ensures heard { (note : ℕ × ℕ) → Contains (pass_view pass.old.seat).position_notes note → Contains self.new.book.view.position_notes note }
         ensures log { self.new.log ≡ self.old.log }
+        ensures pending { self.new.book.pending ≡ self.old.book.pending }
     {
         self.book.legal();
         self.book.tell(&board.board, &mut pass.seat);

@@ -1,22 +1,26 @@
 //! A cell behind its lock.
 
-ghost use Rattle.std.specs.Prelude.{◌≡◌, ◌-◌, ◌<◌, Some, slice_get};
+ghost use Rattle.std.specs.Prelude.{◌≡◌, ◌≢◌, ◌-◌, ◌<◌, ℕ, true, length, Some, Err, slice_get, Contains, IfSome};
+ghost use mathlib.Core.List.{IsPrefix};
 ghost use Rattle.cj_model.specs.declared.request.Request.TheVariants as request;
 ghost use Rattle.cj_model.specs.Sql.WrittenRequests.{IsWritten};
 ghost use Rattle.cj_model.specs.declared.limits.TheConstants.{BACKEND_LIMIT};
-ghost use Rattle.cj_cluster.specs.History.Histories.{log};
+ghost use Rattle.cj_model.specs.Cluster.Placements.{part};
+ghost use Rattle.cj_cluster.specs.History.Histories.{database_after, is_enabled, is_free, log};
 ghost use Rattle.cj_cluster.specs.History.Legality.{IsLegal};
 ghost use Rattle.cj_board.specs.Seats.{front, pass_view};
 ghost use Rattle.cj_place.specs.Layouts.{placement_of};
+ghost use Rattle.cj_replica.specs.Cells.{GivesContents, ReadsAnswer};
+ghost use Rattle.cj_locked.specs.Auditing.{GivesPart};
 ghost use Rattle.cj_locked.specs.Passes.{HasNotedMore};
 ghost use Rattle.cj_locked.specs.Reading.{IsReadAnswer};
-ghost use Rattle.cj_locked.specs.Taking.{report_of, ReportsEntry};
+ghost use Rattle.cj_locked.specs.Taking.{report_of, CarriesOut, ReportsEntry};
 
 use crate::naming::Naming;
 use crate::pass::{NamedBoard, Pass};
 use cj_backend::Backend;
 use cj_cluster::Did;
-use cj_model::{Asked, Entry, Select, Text};
+use cj_model::{Asked, Db, Entry, Select, Text};
 use cj_replica::{Caught, Cell, CellError, CellReadError};
 use std::marker::PhantomData;
 
@@ -146,7 +150,7 @@ impl<J: Naming, B: Backend> LockedCell<J, B> {
     /// pass has heard of it then.
     ///
     /// `Failed` counts a fault. A cell that is of another backend, or stands elsewhere, answers that it ran out of
-    /// memory. While the turn is held at a log of `n` entries no enabled one does.
+    /// memory. An enabled one stands at position `n` while the log has `n` entries, none of them open.
     pub fn contents(
         &mut self,
         board: &NamedBoard<J>,
@@ -158,24 +162,52 @@ impl<J: Naming, B: Backend> LockedCell<J, B> {
         ensures legal { IsLegal (front pass.new.seat) }
         ensures gives { GivesPart B.tells (placement_of J.layout) b n (pass_view pass.old.seat) (pass_view pass.new.seat) result }
         ensures asked { (self.old.cell.state.b ≡ b) × (self.old.cell.state.position ≡ Some n) → GivesContents self.old.cell.state result self.new.cell.state }
+        ensures other { self.old.cell.state.b ≢ b → (result ≡ Err CellError.Starved) × (self.new.cell.state ≡ self.old.cell.state) }
+        ensures elsewhere { self.old.cell.state.position ≢ Some n → (result ≡ Err CellError.Starved) × (self.new.cell.state ≡ self.old.cell.state) }
+        ensures stands { self.old.cell.state.b ≡ b → is_free (front pass.old.seat) ≡ true → is_enabled (front pass.old.seat) b ≡ true → length (log (front pass.old.seat)) ≡ n → length (log (front pass.new.seat)) ≡ n → self.old.cell.state.position ≡ Some n }
     {
-        unreachable!()
+        if self.cell.number() != b {
+            self.cell.report(&board.board, &mut pass.seat);
+            return Err(CellError::Starved);
+        }
+        match self.cell.position() {
+            Some(position) if position == n => self.contents_there(board, pass),
+            _ => {
+                self.cell.brief(&board.board, &mut pass.seat);
+                self.cell.report(&board.board, &mut pass.seat);
+                Err(CellError::Starved)
+            }
+        }
     }
 
-    /// Looks where the backend stands: its number, its position or none if it is out, and its last login. The pass has
-    /// heard of it then.
-    pub fn look(
-        &mut self,
-        board: &NamedBoard<J>,
-        pass: &mut Pass<J>,
-    ) -> (u8, Option<u64>)
+    /// Asks the backend for all that it holds, where it stands.
+    fn contents_there(&mut self, board: &NamedBoard<J>, pass: &mut Pass<J>) -> Result<Db, CellError>
+        ensures more { HasNotedMore (pass_view pass.old.seat) (pass_view pass.new.seat) }
+        ensures legal { IsLegal (front pass.new.seat) }
+        ensures gives { (n : ℕ) → self.old.cell.state.position ≡ Some n → GivesPart B.tells (placement_of J.layout) self.old.cell.state.b n (pass_view pass.old.seat) (pass_view pass.new.seat) result }
+        ensures asked { GivesContents self.old.cell.state result self.new.cell.state }
+    {
+        self.cell.brief(&board.board, &mut pass.seat);
+        self.cell.legal();
+        let contents = self.cell.contents(&board.board);
+        self.cell.report(&board.board, &mut pass.seat);
+        contents
+    }
+
+    /// Looks where the backend stands: its number, and its position or none if it is out. The pass has heard of it
+    /// then.
+    pub fn look(&mut self, board: &NamedBoard<J>, pass: &mut Pass<J>) -> (u8, Option<u64>)
         ensures more { HasNotedMore (pass_view pass.old.seat) (pass_view pass.new.seat) }
         ensures legal { IsLegal (front pass.new.seat) }
         ensures is { (result.0 ≡ self.old.cell.state.b) × (result.1 ≡ self.old.cell.state.position) }
         ensures noted { IfSome result.1 (λ n. Contains (pass_view pass.new.seat).position_notes (result.0, n)) }
+        ensures seen { IsPrefix self.old.cell.view.front (front pass.new.seat) }
         ensures state { self.new.cell.state ≡ self.old.cell.state }
     {
-        unreachable!()
+        let b = self.cell.number();
+        let position = self.cell.position();
+        self.cell.report(&board.board, &mut pass.seat);
+        (b, position)
     }
 
     /// Lends the backend.
@@ -192,6 +224,21 @@ impl<J: Naming, B: Backend> LockedCell<J, B> {
         ensures login { B.login result ≡ self.cell.state.login }
     {
         let LockedCell { cell, .. } = self;
+        cell.into_backend()
+    }
+
+    /// Takes the cell apart, and gives the backend. The pass has seen what the cell has. Where no entry is open in that
+    /// history and the backend is enabled there, it holds its part of the database at the end of the log.
+    pub fn into_backend_at(self, board: &NamedBoard<J>, pass: &mut Pass<J>) -> B
+        requires seen { IsPrefix self.cell.view.front (front pass.old.seat) }
+        ensures told { B.told result ≡ self.cell.state.told }
+        ensures login { B.login result ≡ self.cell.state.login }
+        ensures same { pass_view pass.new.seat ≡ pass_view pass.old.seat }
+        ensures held { B.tells ≡ true → is_free (front pass.old.seat) ≡ true → is_enabled (front pass.old.seat) self.cell.state.b ≡ true → B.told result ≡ Some (part (placement_of J.layout) self.cell.state.b (database_after (log (front pass.old.seat)) (length (log (front pass.old.seat))))) }
+    {
+        let LockedCell { mut cell, .. } = self;
+        cell.brief(&board.board, &mut pass.seat);
+        cell.legal();
         cell.into_backend()
     }
 }

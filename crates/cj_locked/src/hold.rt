@@ -1,12 +1,15 @@
 //! The turn, held by who brings no event.
 
-ghost use Rattle.std.specs.Prelude.{◌≡◌, ℕ, false, length, is_none};
+ghost use Rattle.std.specs.Prelude.{◌≡◌, ℕ, List, None, true, false, length, is_none};
+ghost use mathlib.Core.List.{IsPrefix};
 ghost use Rattle.cj_model.specs.Cluster.Masks.{in_mask};
-ghost use Rattle.cj_cluster.specs.History.Histories.{is_enabled, log};
+ghost use Rattle.cj_cluster.specs.declared.event.Event.{Event};
+ghost use Rattle.cj_cluster.specs.History.Histories.{is_enabled, is_free, log};
 ghost use Rattle.cj_cluster.specs.History.Legality.{IsLegal};
 ghost use Rattle.cj_board.specs.Seats.{front, pass_view};
 ghost use Rattle.cj_locked.specs.Auditing.{HoldsTurn, IsHeldOver};
 ghost use Rattle.cj_locked.specs.Passes.{HasNotedMore};
+ghost use Rattle.cj_locked.specs.Turns.{turn_amount};
 
 use crate::book::LockedBook;
 use crate::naming::Naming;
@@ -36,20 +39,36 @@ impl<J: Naming, S: Store + Drop> LockedBook<J, S> {
         ensures told { front pass.new.seat ≡ self.new.book.state.history }
         ensures state { self.new.book.state ≡ self.old.book.state }
     {
-        unreachable!()
+        self.book.legal();
+        self.book.tell(&board.board, &mut pass.seat);
+        let length = self.book.length();
+        let enabled = self.book.enabled();
+        let Some(mut turn) = self.turn.take() else {
+            unreachable!()
+        };
+        turn.audit(&mut self.ledger);
+        HeldTurn {
+            length,
+            enabled,
+            turn,
+        }
     }
 
     /// Takes the turn back from who held it. The pass has seen the history then, in which only failures in reads came
     /// since `hold`.
-    pub fn give_back(&mut self, board: &NamedBoard<J>, pass: &mut Pass<J>, turn: Turn<J, S>)
+    pub fn give_back(&mut self, board: &NamedBoard<J>, pass: &mut Pass<J>, mut turn: Turn<J, S>)
         requires holds { HoldsTurn S.tells S.faults (front pass.old.seat) turn.share.amount turn.log }
         ensures held { IsHeldOver (front pass.old.seat) (front pass.new.seat) }
+        ensures since { (m H : List Event) → turn.share.amount ≡ turn_amount m None → is_free m ≡ true → IsPrefix m H → IsPrefix H (front pass.old.seat) → IsHeldOver H (front pass.new.seat) }
         ensures more { HasNotedMore (pass_view pass.old.seat) (pass_view pass.new.seat) }
         ensures legal { IsLegal (front pass.new.seat) }
         ensures told { front pass.new.seat ≡ self.new.book.state.history }
         ensures state { self.new.book.state ≡ self.old.book.state }
         ensures back { is_none self.new.log ≡ false }
     {
-        unreachable!()
+        turn.audit(&mut self.ledger);
+        self.book.legal();
+        self.book.tell(&board.board, &mut pass.seat);
+        self.turn = Some(turn);
     }
 }

@@ -1,6 +1,6 @@
 //! How a query looks at the book: who may answer it, and what becomes of the answer.
 
-ghost use Rattle.std.specs.Prelude.{ℕ, ◌≡◌, ◌≢◌, ◌↔◌, ◌^◌, ◌<◌, ◌≤◌, true, false, length, IfOk, None, Ok};
+ghost use Rattle.std.specs.Prelude.{◌≡◌, ◌≢◌, ◌↔◌, ◌==◌, ◌&&◌, ◌^◌, ◌<◌, ◌≤◌, true, false, length, IfOk, None, Ok};
 ghost use Rattle.cj_model.specs.declared.answer.Asked.TheVariants.{Rows};
 ghost use Rattle.cj_model.specs.Cluster.Balancing.{one_less};
 ghost use Rattle.cj_model.specs.Cluster.Caching.{after_keep, has_answer};
@@ -10,8 +10,7 @@ ghost use Rattle.cj_cluster.specs.History.Histories.{ended_count, log};
 ghost use Rattle.cj_cluster.specs.History.Legality.{IsLegal};
 ghost use Rattle.cj_place.specs.Layouts.{placement_of};
 ghost use Rattle.cj_board.specs.Seats.{front, pass_view};
-ghost use Rattle.cj_locked.specs.Looking.{GivesKept, IsLookAt, IsPickOf, LooksAt};
-ghost use Rattle.cj_book.specs.Seated.{HasSameSeat};
+ghost use Rattle.cj_locked.specs.Looking.{with_look, GivesKept, IsLookAt, IsLookUpOf, IsPickOf, LooksAt};
 ghost use Rattle.cj_locked.specs.Passes.{HasNotedMore};
 
 use crate::book::{LockedBook, without};
@@ -35,6 +34,13 @@ pub enum Look {
     Tried(u32),
     /// No enabled backend hosts each table that the query names.
     Unserved,
+}
+
+/// Whether a query is looked up in the cache: at its first look, outside transactions.
+fn is_looked_up(tx: u64, first: bool) -> bool
+    ensures { result ≡ (first && tx == 0) }
+{
+    first && tx == 0
 }
 
 impl<J: Naming, S: Store + Drop> LockedBook<J, S> {
@@ -63,15 +69,66 @@ impl<J: Naming, S: Store + Drop> LockedBook<J, S> {
         ensures pending { self.new.book.pending ≡ self.old.book.pending }
     {
         self.tell(board, pass);
+        self.look_now(tx, select, least, tried, first)
+    }
+
+    /// The same, of which no pass hears.
+    fn look_now(
+        &mut self,
+        tx: u64,
+        select: &Select,
+        least: u64,
+        tried: u32,
+        first: bool,
+    ) -> Result<Look, NoMemory>
+        requires owes { least ≤ length (log self.old.book.state.history) }
+        ensures look { IfOk result (IsLookAt J.tells (placement_of J.layout) self.old.book.state.history tx select.now least tried) }
+        ensures leaves { LooksAt self.old.book.state tx select.now first tried result self.new.book.state }
+        ensures history { self.new.book.state.history ≡ self.old.book.state.history }
+        ensures log { self.new.log ≡ self.old.log }
+        ensures pending { self.new.book.pending ≡ self.old.book.pending }
+    {
+        self.book.legal();
         let serving = self.book.candidates(select.tables.as_slice());
         if serving == 0 {
             return Ok(Look::Unserved);
         }
         let owed = least.max(self.book.ended_count());
-        if first && tx == 0 && self.book.look(select) {
+        if is_looked_up(tx, first) {
+            return self.look_up(select, serving, tried, owed);
+        }
+        Ok(self.pick(serving, tried, owed))
+    }
+
+    /// Looks a query up in the cache. Where that keeps no answer, a backend is picked.
+    fn look_up(
+        &mut self,
+        select: &Select,
+        serving: u32,
+        tried: u32,
+        owed: u64,
+    ) -> Result<Look, NoMemory>
+        requires below { serving < 2 ^ BACKEND_LIMIT }
+        requires owed { owed ≤ length (log self.old.book.state.history) }
+        ensures looks { IsLookUpOf (has_answer select.now self.old.book.state.cache) J.tells self.old.book.state select.now serving tried owed result self.new.book.state }
+        ensures history { self.new.book.state.history ≡ self.old.book.state.history }
+        ensures log { self.new.log ≡ self.old.log }
+        ensures pending { self.new.book.pending ≡ self.old.book.pending }
+    {
+        if self.touch(select) {
             return self.share(select, owed);
         }
         Ok(self.pick(serving, tried, owed))
+    }
+
+    /// Returns whether the cache keeps an answer of the query, and counts a hit or a miss.
+    fn touch(&mut self, select: &Select) -> bool
+        ensures found { result ≡ has_answer select.now self.old.book.state.cache }
+        ensures looked { self.new.book.state ≡ with_look self.old.book.state select.now }
+        ensures log { self.new.log ≡ self.old.log }
+        ensures pending { self.new.book.pending ≡ self.old.book.pending }
+    {
+        self.book.look(select)
     }
 
     /// Gives the kept answer of a query, which the cache has, at a position not below `owed`.
@@ -80,6 +137,7 @@ impl<J: Naming, S: Store + Drop> LockedBook<J, S> {
         requires owed { owed ≤ length (log self.now.book.state.history) }
         ensures { IfOk result (GivesKept J.tells (log self.now.book.state.history) select.now owed) }
     {
+        self.book.legal();
         match self.book.shared(select)? {
             Some(SharedAnswer { answer, at }) => Ok(Look::Kept(answer, owed.max(at))),
             None => unreachable!(),
@@ -89,8 +147,9 @@ impl<J: Naming, S: Store + Drop> LockedBook<J, S> {
     /// Picks a backend of those that serve a query and aren't in the mask of those that were tried.
     fn pick(&mut self, serving: u32, tried: u32, owed: u64) -> Look
         requires below { serving < 2 ^ BACKEND_LIMIT }
-        ensures { IsPickOf self.old.book.state serving tried owed result self.new.book.state }
-        ensures seat { HasSameSeat self.old.book self.new.book }
+        ensures picks { IsPickOf self.old.book.state serving tried owed result self.new.book.state }
+        ensures history { self.new.book.state.history ≡ self.old.book.state.history }
+        ensures pending { self.new.book.pending ≡ self.old.book.pending }
         ensures log { self.new.log ≡ self.old.log }
     {
         match self.book.pick(without(serving, tried)) {
@@ -135,7 +194,23 @@ impl<J: Naming, S: Store + Drop> LockedBook<J, S> {
         ensures pending { self.new.book.pending ≡ self.old.book.pending }
     {
         self.tell(board, pass);
-        self.book.ended(b);
+        self.end_read(b);
+        self.keep(answered)
+    }
+
+    /// Gives an answer to the cache, at a position of the log. False if an entry after that touches a table of the
+    /// query, so that it isn't kept.
+    fn keep(&mut self, answered: Cached) -> Result<bool, NoMemory>
+        requires possible { IsAnswer answered.answer }
+        requires within { answered.at ≤ length (log self.old.book.state.history) }
+        requires right { J.tells ≡ true → IsAnswerAt (log self.old.book.state.history) answered.at answered.select (Rows answered.answer) }
+        ensures untouched { IfOk result (λ kept. (kept ≡ true) ↔ NoneTouches (log self.old.book.state.history) answered.at (length (log self.old.book.state.history)) answered.select) }
+        ensures kept { result ≡ Ok true → self.new.book.state.cache ≡ after_keep answered self.old.book.state.cache }
+        ensures dropped { result ≢ Ok true → self.new.book.state.cache ≡ self.old.book.state.cache }
+        ensures state { self.new.book.state ≡ record self.old.book.state { cache = self.new.book.state.cache } }
+        ensures log { self.new.log ≡ self.old.log }
+        ensures pending { self.new.book.pending ≡ self.old.book.pending }
+    {
         let Cached { select, answer, at } = answered;
         self.book.keep(select, answer, at)
     }
@@ -145,6 +220,13 @@ impl<J: Naming, S: Store + Drop> LockedBook<J, S> {
         ensures { result ≡ false ↔ self.now.book.pending ≡ None }
     {
         self.book.is_pending()
+    }
+
+    /// Returns the number of entries in the log.
+    pub fn length(&self) -> u64
+        ensures { result ≡ length (log self.now.book.state.history) }
+    {
+        self.book.length()
     }
 
     /// Returns whether fewer than `n` entries have ended.

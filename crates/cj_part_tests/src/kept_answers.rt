@@ -1,7 +1,7 @@
 //! The cache of answers.
 
 use crate::given::{name, select};
-use cj_cache::Cache;
+use cj_cache::{Cache, SharedAnswer};
 use cj_model::{Answer, AnswerRows, ListOf, Select, TableSet, Value};
 use std::alloc::Global;
 use std::process::Abort;
@@ -49,5 +49,36 @@ fn answers_are_kept(rt: HostRuntime) -> Result<(), Fail> {
     assert!(rt; !cache.touch(&of_table(&rt, alloc, "a")?));
     assert!(rt; cache.kept(&of_table(&rt, alloc, "c")?).is_some());
     assert_eq!(rt; cache.counts(), (1, 1));
+    Ok(())
+}
+
+/// Whether the share is of the row of this value, answered at position 1.
+fn is_share_of(shared: &SharedAnswer, value: i64) -> bool {
+    let rows = &shared.answer.rows;
+    let is_row = match rows.items().first() {
+        Some(Value::Int(n)) => *n == value,
+        _ => false,
+    };
+    is_row && rows.len() == 1 && shared.at == 1
+}
+
+/// A share stays readable after the cache drops its answer.
+#[test]
+fn a_share_outlives_its_entry(rt: HostRuntime) -> Result<(), Fail> {
+    let alloc = rt.alloc();
+    let Ok(mut cache) = Cache::new(alloc, 2) else {
+        panic!(&rt; "cache")
+    };
+    keep(&rt, alloc, &mut cache, "a")?;
+    let asked = of_table(&rt, alloc, "a")?;
+    let Ok(Some(shared)) = cache.shared(&asked) else {
+        panic!(&rt; "share")
+    };
+    let mut set = TableSet::new(alloc);
+    assert!(rt; set.insert(&name(&rt, "a")).is_ok());
+    cache.drop_needing(&set);
+    assert!(rt; cache.kept(&asked).is_none());
+    assert!(rt; is_share_of(&shared, 5));
+    assert_eq!(rt; cache.counts(), (0, 0));
     Ok(())
 }

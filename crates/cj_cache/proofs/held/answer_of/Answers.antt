@@ -8,11 +8,12 @@ returns-in-None c =
     let s = c.args.select.now in
     let pairs = c.args.held.now.entries in
     let found : lookup (same_statement s) pairs ≡ None = search rules in
-    sym (ap (option_map (λ (h : Held). h.answer)) found) ∙ answer_shown s pairs
+    sym (ap (option_map (λ (h : Held). h.answer.value)) found) ∙ answer_shown s pairs
 
 pub returns-in-Some : goal.returns-in-Some
 returns-in-Some c =
     let s = c.args.select.now in
     let pairs = c.args.held.now.entries in
     let found : lookup (same_statement s) pairs ≡ Some c.in-Some.found.now = search rules in
-    sym (ap (option_map (λ (h : Held). h.answer)) found) ∙ answer_shown s pairs
+    ap Some c.deref.ensures
+    ∙ sym (ap (option_map (λ (h : Held). h.answer.value)) found) ∙ answer_shown s pairs

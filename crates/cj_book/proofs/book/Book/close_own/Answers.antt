@@ -1,10 +1,10 @@
 use Rattle.std.proofs.Common.{◌==◌, ℕ, List, All, Contains, filter, not, ap, sym, subst, refl}
 use mathlib.Core.List.{IsPrefix}
-use Rattle.cj_book.proofs.Cited.{SeatView, book_view, closed_out, follows_closed, history, numbers_without, pass_view, session_number}
+use Rattle.cj_book.proofs.Cited.{SeatView, book_view, closed_out, follows_closed, numbers_without, pass_view, session_number}
 use Rattle.cj_book.proofs.Owners.{numbers_of, open_taken}
 use Rattle.cj_board.specs.Seats.{front}
 use Rattle.cj_book.specs.Books.{IsOpenSession}
-use Rattle.cj_book.specs.Lists.{without}
+use Rattle.cj_transactions.specs.Lists.{without}
 use Rattle.cj_book.proofs.book.Book.close_own.Goals as goal
 
 pub invariant_of-self : goal.invariant_of-self

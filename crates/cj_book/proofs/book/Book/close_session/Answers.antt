@@ -1,5 +1,5 @@
 use Rattle.cj_book.proofs.Owners.{open_others}
-use Rattle.cj_book.proofs.Cited.{book_view, follows_closed, history, numbers_without, session_number}
+use Rattle.cj_book.proofs.Cited.{book_view, follows_closed, numbers_without, session_number}
 use Rattle.cj_book.proofs.book.Book.close_session.Goals as goal
 
 pub invariant_of-self : goal.invariant_of-self

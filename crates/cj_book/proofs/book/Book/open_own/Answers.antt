@@ -1,5 +1,5 @@
 use Rattle.std.proofs.Common.{◌+◌, arith, rules, sym}
-use Rattle.cj_book.proofs.Cited.{book_view, history, opened_note}
+use Rattle.cj_book.proofs.Cited.{book_view, opened_note}
 use Rattle.cj_book.proofs.Following.{follows_opened}
 use Rattle.cj_book.proofs.Owners.{open_own_more}
 use Rattle.cj_book.proofs.book.Book.open_own.Goals as goal

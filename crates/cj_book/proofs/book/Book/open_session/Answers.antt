@@ -1,6 +1,6 @@
 use Rattle.std.proofs.Common.{◌+◌, rules}
 use Rattle.cj_book.proofs.Following.{follows_opened}
-use Rattle.cj_book.proofs.Cited.{book_view, history}
+use Rattle.cj_book.proofs.Cited.{book_view}
 use Rattle.cj_book.proofs.Owners.{open_more}
 use Rattle.cj_book.proofs.book.Book.open_session.Goals as goal
 

@@ -2,15 +2,39 @@ use Rattle.std.proofs.Common.{rules, ◌≡◌, ◌+◌, List, Some, ap, sym, �
 use Rattle.cj_cluster.specs.declared.event.Event.{Event}
 use Rattle.cj_cluster.specs.History.Histories.{log}
 use Rattle.cj_cluster.specs.History.Legality.{IsFitEntry}
-use Rattle.cj_board.specs.Seats.{front}
+use Rattle.cj_board.specs.Seats.{front, pass_view}
+use Rattle.cj_board.specs.Views.{pass_without_tokens}
 use Rattle.cj_place.specs.Layouts.{placement_of}
 use Rattle.cj_book.specs.BookLogs.{BookLogState, LogFollows}
-use Rattle.cj_book.specs.Books.{placement_at}
+use Rattle.cj_book.specs.Books.{placement_at, BookState}
 use Rattle.cj_book.specs.declared.pending.Pending.TheVariants as pending
 use Rattle.cj_locked.specs.Locked.{IsVacant}
 use Rattle.cj_locked.specs.Turns.{turn_amount}
 use Rattle.cj_locked.proofs.Beginning.{amount_begun, begins_now, refuses_now}
+use Rattle.cj_locked.proofs.Noting.{keeps_learning, still_noted}
 use Rattle.cj_locked.proofs.book.LockedBook.begin_told.Goals as goal
+
+pub invariant_of-self : goal.invariant_of-self
+invariant_of-self g c = record {
+  on = c.begin_own.ensures.board.0 ∙ c.self.invariant.on;
+  laid = ap (λ (x : BookState). x.layout) c.begin_own.ensures.state ∙ c.self.invariant.laid;
+  gives = c.begin_own.ensures.still_gives;
+  counted = search rules;
+  vacant = search rules;
+  fresh = search rules;
+  noted = still_noted c.self.inside.book.view c.begin_own.new.self.view (keeps_learning c.self.inside.book.view (pass_without_tokens (pass_view c.args.pass.now.seat)) c.begin_own.new.self.view c.begin_own.ensures.seat) c.self.invariant.noted;
+}
+
+pub invariant_of-self-in-Err : goal.invariant_of-self-in-Err
+invariant_of-self-in-Err g c = record {
+  on = c.begin_own.ensures.board.0 ∙ c.self.invariant.on;
+  laid = ap (λ (x : BookState). x.layout) c.begin_own.ensures.state ∙ c.self.invariant.laid;
+  gives = c.begin_own.ensures.still_gives;
+  counted = search rules;
+  vacant = search rules;
+  fresh = search rules;
+  noted = still_noted c.self.inside.book.view c.begin_own.new.self.view (keeps_learning c.self.inside.book.view (pass_without_tokens (pass_view c.args.pass.now.seat)) c.begin_own.new.self.view c.begin_own.ensures.seat) c.self.invariant.noted;
+}
 
 pub returns-in-Ok-clause-ok : goal.returns-in-Ok-clause-ok
 returns-in-Ok-clause-ok g c =

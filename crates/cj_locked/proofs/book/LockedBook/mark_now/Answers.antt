@@ -8,6 +8,8 @@ use Rattle.cj_book.specs.declared.pending.Pending.TheVariants as pending
 use Rattle.cj_locked.specs.Marking.{MarksAt}
 use Rattle.cj_locked.specs.Turns.{turn_amount}
 use Rattle.cj_locked.proofs.Marking.{amount_marked, amount_unmarked, mark_follows, mark_fresh, mark_idle, mark_pending, mark_uncounted, marked_gives, marked_layout, marks_ok}
+use Rattle.cj_locked.proofs.Fresh.{fresh_marked}
+use Rattle.cj_locked.proofs.Noting.{keeps_event, still_noted}
 use Rattle.cj_locked.proofs.book.LockedBook.mark_now.Goals as goal
 
 pub finish_marker-requires-clause-fresh : goal.finish_marker-requires-clause-fresh
@@ -42,6 +44,8 @@ invariant_of-self g c =
         follows = subst (λ (x : BookLogState _). LogFollows g.S.Store.tells g.S.Store.faults x c.finish_marker.new.self.state.history) (sym same)
             (subst (λ (x : List Event). LogFollows g.S.Store.tells g.S.Store.faults c.args.turn.log x) (sym now) (mark_follows g.S.Store.tells g.S.Store.faults c.args.self.now.book.state.history c.args.name.now c.args.b c.args.turn.share.amount c.args.turn.log c.args.appended c.requires.holds c.self.inside.book.state before c.self.inside.book.pending whole));
       };
+      fresh = fresh_marked g.J.Naming.tells old c.finish_marker.new.self.state c.args.name.now c.args.b c.args.appended c.finish_marker.ensures.state c.self.invariant.fresh;
+      noted = still_noted c.self.inside.book.view c.finish_marker.new.self.view (keeps_event _ c.self.inside.book.view c.finish_marker.new.self.view c.finish_marker.ensures.seat) c.self.invariant.noted;
     }
 
 pub invariant_of-self-in-Err : goal.invariant_of-self-in-Err
@@ -67,6 +71,8 @@ invariant_of-self-in-Err g c =
         follows = subst (λ (x : BookLogState _). LogFollows g.S.Store.tells g.S.Store.faults x c.finish_marker.new.self.state.history) (sym same)
             (subst (λ (x : List Event). LogFollows g.S.Store.tells g.S.Store.faults c.args.turn.log x) (sym now) (mark_follows g.S.Store.tells g.S.Store.faults c.args.self.now.book.state.history c.args.name.now c.args.b c.args.turn.share.amount c.args.turn.log c.args.appended c.requires.holds c.self.inside.book.state before c.self.inside.book.pending whole));
       };
+      fresh = fresh_marked g.J.Naming.tells old c.finish_marker.new.self.state c.args.name.now c.args.b c.args.appended c.finish_marker.ensures.state c.self.invariant.fresh;
+      noted = still_noted c.self.inside.book.view c.finish_marker.new.self.view (keeps_event _ c.self.inside.book.view c.finish_marker.new.self.view c.finish_marker.ensures.seat) c.self.invariant.noted;
     }
 
 pub returns-in-Ok-clause-marks : goal.returns-in-Ok-clause-marks

@@ -1,7 +1,8 @@
-use Rattle.std.proofs.Common.{rules, ◌≡◌, subst}
+use Rattle.std.proofs.Common.{rules, ◌≡◌, sym, subst}
 use Rattle.cj_board.specs.Seats.{pass_view}
 use Rattle.cj_board.specs.Views.{pass_of}
 use Rattle.cj_place.specs.Layouts.{placement_of}
+use Rattle.cj_replica.specs.Cells.{CellState, ReadsAnswer}
 use Rattle.cj_locked.specs.Reading.{IsReadAnswer}
 use Rattle.cj_locked.proofs.Passes.{noted_joined}
 use Rattle.cj_locked.proofs.Reading.{read_answer}
@@ -19,3 +20,8 @@ returns-clause-answer g c =
     subst (λ b. IsReadAnswer g.B.Backend.tells (placement_of g.J.Naming.layout) b c.args.tx c.args.select.now c.args.least (pass_view c.report-2.new.pass) c.read-answer.result) its
     (read_answer _ g.B.Backend.tells (placement_of g.J.Naming.layout) c.args.self.now.cell c.read-answer.new.self c.args.tx c.args.select.now c.args.least c.args.login.now c.read-answer.result (pass_view c.args.pass.now.seat) (pass_view c.report-2.new.pass)
     c.legal.ensures c.args.self.now.placed c.read-answer.ensures.logged c.read-answer.ensures.state c.read-answer.ensures.seat c.report-2.ensures.pass c.report-2.ensures.seen)
+
+pub returns-clause-asked : goal.returns-clause-asked
+returns-clause-asked g c =
+    λ same.
+    subst (λ (s : CellState). ReadsAnswer c.args.self.now.cell.state c.args.login.now c.args.tx c.args.select.now c.args.least c.read-answer.result s) (sym c.report-2.ensures.state) c.read-answer.ensures.state

@@ -1,0 +1,81 @@
+-- The turn that is held, and what stays meanwhile.
+use Rattle.std.proofs.Common.{◌≡◌, ℕ, ◌≤◌, Bool, true, List, Option, None, ap, sym, ◌∙◌, subst, arith}
+use mathlib.Core.List.{IsPrefix}
+use Rattle.cj_cluster.specs.declared.event.Event.{Event}
+use Rattle.cj_cluster.specs.History.Histories.{is_free}
+use Rattle.cj_cluster.proofs.Pushed.{prefix_self, prefix_trans}
+use Rattle.cj_book.specs.BookLogs.{BookLogState, LogFollows}
+use Rattle.cj_book.specs.Seated.{SeatedBook}
+use Rattle.cj_book.specs.declared.pending.Pending.{Pending}
+use Rattle.cj_locked.specs.Auditing.{HoldsTurn, IsHeldOver}
+use Rattle.cj_locked.specs.Locked.{IsVacant}
+use Rattle.cj_locked.specs.Turns.{turn_amount, turn_events_of}
+use Rattle.cj_locked.proofs.Ending.{same_amount}
+use Rattle.cj_locked.proofs.Following.{follows_reads}
+use Rattle.cj_locked.proofs.Turns.{free_stays, turn_events_more, turn_stays, TurnStays}
+
+-- who took the turn has it
+pub holds_turn : {S : Type 0} (tells : Bool) (count : S → ℕ) (book : SeatedBook) (l k : BookLogState S) (amount : ℕ) (G : List Event) → IsVacant tells count book l → amount ≡ turn_amount book.state.history book.pending → k ≡ l → G ≡ book.state.history
+    → HoldsTurn tells count G amount k
+holds_turn tells count book l k amount G vacant is same now = record {
+  m = book.state.history;
+  was_free = vacant.idle;
+  seen = subst (IsPrefix book.state.history) (sym now) (prefix_self book.state.history);
+  turn = is ∙ ap (turn_amount book.state.history) vacant.unpending;
+  follows = subst (λ (x : BookLogState _). LogFollows tells count x book.state.history) (sym same) vacant.follows;
+}
+
+-- a history that goes on has no fewer events that need the turn
+events_grow : (g h : List Event) → IsPrefix g h → turn_events_of g ≤ turn_events_of h
+events_grow g h longer = subst (λ (x : List Event). turn_events_of g ≤ turn_events_of x) longer.1 (turn_events_more g longer.0)
+
+-- The turn has the amount of history m, from which H goes on, and F from H; the book stands at h. Only failures in reads
+-- came since H.
+pub held_since : (m H F h : List Event) (amount : ℕ) → amount ≡ turn_amount m None → is_free m ≡ true → IsPrefix m H → IsPrefix H F → IsPrefix F h → (item : Option Pending) → amount ≡ turn_amount h item → (G : List Event) → G ≡ h → IsHeldOver H G
+held_since m H F h amount turn free begins seen longer item whole G now =
+    let rest : IsPrefix H h = prefix_trans H F h seen longer in
+    let all : IsPrefix m h = prefix_trans m H h begins rest in
+    let same : (turn_events_of h ≡ turn_events_of m) × (item ≡ None) = same_amount m h None item all (sym turn ∙ whole) in
+    let few : turn_events_of m ≤ turn_events_of H = events_grow m H begins in
+    let more : turn_events_of H ≤ turn_events_of h = events_grow H h rest in
+    let none : turn_events_of h ≡ turn_events_of m = same.0 in
+    let none_before : turn_events_of H ≡ turn_events_of m = omega (arith, few, more, none) in
+    let none_behind : turn_events_of h ≡ turn_events_of H = omega (arith, few, more, none) in
+    let before : TurnStays m H = turn_stays m H begins none_before in
+    let behind : TurnStays H h = turn_stays H h rest none_behind in
+    subst (IsHeldOver H) (sym now) (record { longer = rest; was_free = free_stays m H before ∙ free; entries = behind.entries; enabled = behind.enabled })
+
+module _ {S : Type 0} (tells : Bool) (count : S → ℕ) (F h : List Event) (amount : ℕ) (l : BookLogState S) (holds : HoldsTurn tells count F amount l) (longer : IsPrefix F h) (item : Option Pending) (whole : amount ≡ turn_amount h item) where
+  begins : IsPrefix holds.m h
+  begins = prefix_trans holds.m F h holds.seen longer
+
+  same : (turn_events_of h ≡ turn_events_of holds.m) × (item ≡ None)
+  same = same_amount holds.m h None item begins (sym holds.turn ∙ whole)
+
+  stays : TurnStays holds.m h
+  stays = turn_stays holds.m h begins same.0
+
+  before : TurnStays holds.m F
+  before =
+      let few : turn_events_of holds.m ≤ turn_events_of F = events_grow holds.m F holds.seen in
+      let more : turn_events_of F ≤ turn_events_of h = events_grow F h longer in
+      let all : turn_events_of h ≡ turn_events_of holds.m = same.0 in
+      let no_more : turn_events_of F ≡ turn_events_of holds.m = omega (arith, few, more, all) in
+      turn_stays holds.m F holds.seen no_more
+
+  -- only failures in reads came
+  pub held_over : (G : List Event) → G ≡ h → IsHeldOver F G
+  held_over G now = subst (IsHeldOver F) (sym now) (record {
+    longer = longer;
+    was_free = free_stays holds.m F before ∙ holds.was_free;
+    entries = stays.entries ∙ sym before.entries;
+    enabled = λ b. stays.enabled b ∙ sym (before.enabled b);
+  })
+
+  -- so the turn is there again
+  pub given_back : (book : SeatedBook) (k : BookLogState S) → book.state.history ≡ h → book.pending ≡ item → k ≡ l → IsVacant tells count book k
+  given_back book k now pending same_log = record {
+    idle = ap is_free now ∙ (free_stays holds.m h stays ∙ holds.was_free);
+    unpending = pending ∙ same.1;
+    follows = subst (λ (x : List Event × BookLogState S). LogFollows tells count x.1 x.0) (λ i. (sym now i, sym same_log i)) (follows_reads tells count l holds.m h begins same.0 holds.follows);
+  }

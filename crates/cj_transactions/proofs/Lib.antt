@@ -1,0 +1,3 @@
+pub mod Cited
+pub mod Numbered
+pub mod TransactionSteps
