@@ -1,8 +1,8 @@
 -- What the parts of a world that has started give, and cells and backends in a row.
 use Rattle.std.proofs.Common.{◌≡◌, ℕ, ◌+◌, ◌<◌, ◌≤◌, Bool, true, cond, suc, List, [], ◌∷◌, ◌++◌, All, Option, Some, length, map, get_or, refl, ap, sym, ◌∙◌, subst, arith, length-append}
 use mathlib.Core.List.{IsPrefix}
-use Rattle.std.proofs.lemmas.List.{get_or-map, length-map, nil_from_length}
-use Rattle.std.proofs.lemmas.List.Elements.{All-from_get_or, All-nil, All-pop, All-same, All-weaker}
+use Rattle.std.proofs.lemmas.List.{get_or-map, length-map}
+use Rattle.std.proofs.lemmas.List.Elements.{All-from_get_or, All-nil, All-pop, All-weaker}
 use Rattle.std.proofs.lemmas.List.Sums.{sum_by-append, sum_by-cons}
 use Rattle.atomic_table.specs.Seated.{TableId}
 use Rattle.cj_auth.specs.Admission.{Register}
@@ -121,33 +121,40 @@ module _ {X : Type 0} (number : X → ℕ) where
       let long : length (xs ++ x ∷ []) ≡ length xs + 1 = length-append xs (x ∷ []) in
       let later : FallTo number (k + 1) xs × (number x ≡ k) = fall_pop k xs x falls.1 in ((omega (arith, first, long), later.0), later.1)
 
-  pub fall_none : (k : ℕ) (xs : List X) → length xs ≡ 0 → FallTo number k xs
-  fall_none k [] none = tt
-  fall_none k (x ∷ xs) none = absurd (let some : suc (length xs) ≡ 0 = none in omega (arith, some))
-
 module _ {X : Type 0} (P : ℕ → X → Type 0) where
   pub hold_push : (k : ℕ) (xs : List X) (x : X) → HoldFrom P k xs → P (k + length xs) x → HoldFrom P k (xs ++ x ∷ [])
   hold_push k [] x holds one = (subst (λ n. P n x) (let is : k + 0 ≡ k = omega arith in is) one, tt)
   hold_push k (y ∷ xs) x holds one = (holds.0, hold_push (k + 1) xs x holds.1 (subst (λ n. P n x) (let is : k + suc (length xs) ≡ k + 1 + length xs = omega arith in is) one))
 
+-- the last element of a list that is popped
+module _ {X : Type 0} (number : X → ℕ) where
+  pub fall_next : (k : ℕ) (xs left : List X) (x : X) → xs ≡ left ++ x ∷ [] → FallTo number k xs → FallTo number (k + 1) left × (number x ≡ k)
+  fall_next k xs left x is falls = fall_pop number k left x (subst (FallTo number k) is falls)
+
+-- numbers by the length of another list, which takes or gives elements
+module _ {X Y : Type 0} (number : X → ℕ) where
+  pub fall_on : (to now : List Y) (y : Y) → now ≡ to ++ y ∷ [] → (left : List X) → FallTo number (length to + 1) left → FallTo number (length now) left
+  fall_on to now y pushed left falls = subst (λ n. FallTo number n left) (sym (ap (λ (l : List Y). length l) pushed ∙ length-append to (y ∷ []))) falls
+
+  pub fall_more : (from left : List Y) (y : Y) → from ≡ left ++ y ∷ [] → (xs now : List X) (x : X) → now ≡ xs ++ x ∷ [] → FallTo number (length from) xs → number x ≡ length left → FallTo number (length left) now
+  fall_more from left y popped xs now x pushed falls is =
+      subst (FallTo number (length left)) (sym pushed)
+      (fall_push number (length left) xs x (subst (λ n. FallTo number n xs) (ap (λ (l : List Y). length l) popped ∙ length-append left (y ∷ [])) falls) is)
+
+pub hold_more : {X : Type 0} (P : ℕ → X → Type 0) (xs now : List X) (x : X) → now ≡ xs ++ x ∷ [] → HoldFrom P 0 xs → P (length xs) x → HoldFrom P 0 now
+hold_more P xs now x pushed holds one = subst (HoldFrom P 0) (sym pushed) (hold_push P 0 xs x holds (subst (λ n. P n x) (let is : length xs ≡ 0 + length xs = omega arith in is) one))
+
+pub stays_room : {n old new : ℕ} → n ≤ old → new ≡ old → n ≤ new
+stays_room {n} room same = subst (λ m. n ≤ m) (sym same) room
+
 -- the element at the end goes from one list to the end of the other
-module _ {X Y : Type 0} (left now : List X) (x : X) (to to_now : List Y) (y : Y) (n : ℕ) (from : List X) (is : from ≡ left ++ x ∷ []) (count : length to + length from ≡ n) where
-  long : length from ≡ length left + 1
-  long = ap (λ (l : List X). length l) is ∙ length-append left (x ∷ [])
-
-  pub moves_room : (room : ℕ) → n ≤ room → length to < room
-  moves_room room enough = let l = long in omega (arith, l, count, enough)
-
-  pub moves_one : to_now ≡ to ++ y ∷ [] → length to_now + length left ≡ n
-  moves_one pushed =
-      let more : length to_now ≡ length to + 1 = ap (λ (l : List Y). length l) pushed ∙ length-append to (y ∷ []) in
-      let l = long in omega (arith, more, l, count)
+pub moves_one : {X Y : Type 0} {n : ℕ} (left : List X) (to_now : List Y) (x : X) (to : List Y) (y : Y) (from : List X) → from ≡ left ++ x ∷ [] → length to + length from ≡ n → to_now ≡ to ++ y ∷ [] → length to_now + length left ≡ n
+moves_one {X} {Y} {n} left to_now x to y from is count pushed =
+    let long : length from ≡ length left + 1 = ap (λ (l : List X). length l) is ∙ length-append left (x ∷ []) in
+    let more : length to_now ≡ length to + 1 = ap (λ (l : List Y). length l) pushed ∙ length-append to (y ∷ []) in omega (arith, more, long, count)
 
 pub all_pop : {X : Type 0} (P : X → Type 0) (xs left : List X) (x : X) → xs ≡ left ++ x ∷ [] → All P xs → All P left × P x
 all_pop P xs left x is all = All-pop P xs left (Some x) is all
-
-pub all_none : {X : Type 0} (P : X → Type 0) (xs : List X) → length xs ≡ 0 → All P xs
-all_none P xs none = All-same P xs [] (nil_from_length xs none) (All-nil P)
 
 -- what was seen is in front of a pass that has seen more
 pub all_seen : {X : Type 0} (f : X → List Event) (g h : List Event) (xs : List X) → IsPrefix g h → All (λ x. IsPrefix (f x) g) xs → All (λ x. IsPrefix (f x) h) xs
