@@ -1,2 +1,4 @@
+mod Administering
+mod Auditing
 pub mod Starting
 pub mod Writing
