@@ -41,7 +41,7 @@ module _ (names : List (List ℕ)) (p : Placement) (h : List Event) (b : ℕ) wh
       let same : db ≡ part p b (database_after (log h) (length (log h))) = holds ∙ (ap (λ (k : ℕ). part p b (database_after (log new) k)) length_is ∙ ap (part p b) at) in
       let called : name ≡ slice_index_or names b [] = sym (get_or_from_slice_get names b name [] named) in
       let all : audit_lines_at names p h b ≡ backend_lines (slice_index_or names b []) (part p b (database_after (log h) (length (log h)))) =
-          ap (λ (t : Bool). if t then backend_lines (slice_index_or names b []) (part p b (database_after (log h) (length (log h)))) else []) (sym is ∙ enabled)
+      ap (λ (t : Bool). if t then backend_lines (slice_index_or names b []) (part p b (database_after (log h) (length (log h)))) else []) (sym is ∙ enabled)
       in
       lines ∙ (ap (λ (x : List ℕ). old ++ backend_lines x db) called ∙ (ap (λ (x : List Slot). old ++ backend_lines (slice_index_or names b []) x) same ∙ ap (λ (xs : List ℕ). old ++ xs) (sym all)))
 
