@@ -74,9 +74,6 @@ module _ (F : List Event) (s queries tx : ℕ) (user : List ℕ) (act : Act) (ow
         tx = fits;
       }
 
-  pub is_fit : (layout : Layout) (register : Register) (least : ℕ) → CanAskDesk (desk_at layout register s F least queries) user (request_of act) → IsFitEntry (log F) entry
-  is_fit layout register least can = record { written = can.written; user = can.short; by = inl is_next }
-
 -- ---- a write
 
 module _ (tells : Bool) (layout : Layout) (register : Register) (s : ℕ) (F G : List Event) (least queries tx : ℕ) (user : List ℕ) (act : Act) (number : ℕ) (reply : Reply)
