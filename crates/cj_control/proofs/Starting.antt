@@ -1,31 +1,32 @@
 -- What the parts of a world that has started give, and cells and backends in a row.
-use Rattle.std.proofs.Common.{◌≡◌, inl, ℕ, ◌+◌, ◌<◌, ◌≤◌, Bool, true, cond, suc, List, [], ◌∷◌, ◌++◌, All, length, map, get_or, refl, ap, sym, ◌∙◌, subst, arith, length-append}
+use Rattle.std.proofs.Common.{◌≡◌, ℕ, ◌+◌, ◌<◌, ◌≤◌, Bool, true, cond, suc, List, [], ◌∷◌, ◌++◌, All, Option, Some, length, map, get_or, refl, ap, sym, ◌∙◌, subst, arith, length-append}
+use mathlib.Core.List.{IsPrefix}
 use Rattle.std.proofs.lemmas.List.{get_or-map, length-map}
-use Rattle.std.proofs.lemmas.List.Elements.{All-from_get_or, All-nil}
+use Rattle.std.proofs.lemmas.List.Elements.{All-from_get_or, All-nil, All-pop, All-weaker}
 use Rattle.std.proofs.lemmas.List.Sums.{sum_by-append, sum_by-cons}
 use Rattle.atomic_table.specs.Seated.{TableId}
 use Rattle.cj_auth.specs.Admission.{Register}
-use Rattle.cj_board.specs.Counting.{session_after}
 use Rattle.cj_book.specs.BookLogs.{BookLogState}
 use Rattle.cj_book.specs.Seated.{GivesOwnPassesOnly, SeatedBook}
 use Rattle.cj_cluster.specs.declared.event.Event.{Event}
 use Rattle.cj_cluster.specs.declared.event.Event.TheVariants.{Enabled, Ended, Marker, Sched}
 use Rattle.cj_cluster.specs.History.Freshness.{IsFreshCache}
-use Rattle.cj_cluster.specs.History.Histories.{is_free, log}
+use Rattle.cj_cluster.specs.History.Histories.{database_after, is_enabled, is_free, log}
+use Rattle.cj_cluster.proofs.Pushed.{prefix_trans}
 use Rattle.cj_cluster.specs.Moves.Moves.{entry_numbered, user_of}
 use Rattle.cj_dump.specs.declared.dump.Dump.{Dump}
 use Rattle.cj_model.specs.declared.request.Act.TheVariants.{Abort}
 use Rattle.cj_model.specs.declared.request.Entry.{Entry}
-use Rattle.cj_model.specs.Cluster.Placements.{Placement}
+use Rattle.cj_model.specs.declared.database.Slot.{Slot}
+use Rattle.cj_model.specs.Cluster.Placements.{Placement, part}
 use Rattle.cj_place.specs.Layouts.{placement_of}
 use Rattle.cj_recovery.specs.Openings.{IsOpening}
 use Rattle.cj_replica.specs.Cells.{CellState}
 use Rattle.cj_replica.specs.Seated.{SeatedCell}
 use Rattle.cj_start.specs.Started.{with_abort, AbortsEach}
 use Rattle.cj_state.specs.Seats.{states_of}
-use Rattle.cj_locked.specs.Locked.{LastIsNoted}
 use Rattle.cj_locked.specs.Turns.{needs_turn, turn_events_of}
-use Rattle.cj_control.specs.Starting.{AreOfStarted, FallTo, HoldFrom}
+use Rattle.cj_control.specs.Starting.{AreOfStarted, FallTo, HoldFrom, IsCurrentAt}
 
 -- ---- a start brings only events that need the turn
 
@@ -85,13 +86,6 @@ module _ {S : Type 0} (tells logged : Bool) (count : S → ℕ) (id pass : Table
   pub started_gives : GivesOwnPassesOnly b
   started_gives = of.apart.gives of.numbers
 
-  -- no session was given an own pass that the history has not
-  pub started_noted : LastIsNoted b.view
-  started_noted =
-      let same : session_after 0 b.view.front ≡ session_after b.view.last_given b.view.front = ap (session_after 0) (of.apart.front ∙ of.apart.book.history) ∙ (sym of.numbers ∙ (sym (ap (λ n. n + 1) of.apart.book.greatest) ∙ started_gives)) in
-      let low : b.view.last_given < session_after 0 b.view.front = omega (arith, same) in
-      record { known = inl low }
-
   pub started_fresh : IsFreshCache tells (log b.state.history) b.state.cache
   started_fresh = rw (of.apart.book.history, of.apart.book.cache) of.fresh
 
@@ -131,3 +125,42 @@ module _ {X : Type 0} (P : ℕ → X → Type 0) where
   pub hold_push : (k : ℕ) (xs : List X) (x : X) → HoldFrom P k xs → P (k + length xs) x → HoldFrom P k (xs ++ x ∷ [])
   hold_push k [] x holds one = (subst (λ n. P n x) (let is : k + 0 ≡ k = omega arith in is) one, tt)
   hold_push k (y ∷ xs) x holds one = (holds.0, hold_push (k + 1) xs x holds.1 (subst (λ n. P n x) (let is : k + suc (length xs) ≡ k + 1 + length xs = omega arith in is) one))
+
+-- the last element of a list that is popped
+module _ {X : Type 0} (number : X → ℕ) where
+  pub fall_next : (k : ℕ) (xs left : List X) (x : X) → xs ≡ left ++ x ∷ [] → FallTo number k xs → FallTo number (k + 1) left × (number x ≡ k)
+  fall_next k xs left x is falls = fall_pop number k left x (subst (FallTo number k) is falls)
+
+-- numbers by the length of another list, which takes or gives elements
+module _ {X Y : Type 0} (number : X → ℕ) where
+  pub fall_on : (to now : List Y) (y : Y) → now ≡ to ++ y ∷ [] → (left : List X) → FallTo number (length to + 1) left → FallTo number (length now) left
+  fall_on to now y pushed left falls = subst (λ n. FallTo number n left) (sym (ap (λ (l : List Y). length l) pushed ∙ length-append to (y ∷ []))) falls
+
+  pub fall_more : (from left : List Y) (y : Y) → from ≡ left ++ y ∷ [] → (xs now : List X) (x : X) → now ≡ xs ++ x ∷ [] → FallTo number (length from) xs → number x ≡ length left → FallTo number (length left) now
+  fall_more from left y popped xs now x pushed falls is =
+      subst (FallTo number (length left)) (sym pushed)
+      (fall_push number (length left) xs x (subst (λ n. FallTo number n xs) (ap (λ (l : List Y). length l) popped ∙ length-append left (y ∷ [])) falls) is)
+
+pub hold_more : {X : Type 0} (P : ℕ → X → Type 0) (xs now : List X) (x : X) → now ≡ xs ++ x ∷ [] → HoldFrom P 0 xs → P (length xs) x → HoldFrom P 0 now
+hold_more P xs now x pushed holds one = subst (HoldFrom P 0) (sym pushed) (hold_push P 0 xs x holds (subst (λ n. P n x) (let is : length xs ≡ 0 + length xs = omega arith in is) one))
+
+pub stays_room : {n old new : ℕ} → n ≤ old → new ≡ old → n ≤ new
+stays_room {n} room same = subst (λ m. n ≤ m) (sym same) room
+
+-- the element at the end goes from one list to the end of the other
+pub moves_one : {X Y : Type 0} {n : ℕ} (left : List X) (to_now : List Y) (x : X) (to : List Y) (y : Y) (from : List X) → from ≡ left ++ x ∷ [] → length to + length from ≡ n → to_now ≡ to ++ y ∷ [] → length to_now + length left ≡ n
+moves_one {X} {Y} {n} left to_now x to y from is count pushed =
+    let long : length from ≡ length left + 1 = ap (λ (l : List X). length l) is ∙ length-append left (x ∷ []) in
+    let more : length to_now ≡ length to + 1 = ap (λ (l : List Y). length l) pushed ∙ length-append to (y ∷ []) in omega (arith, more, long, count)
+
+pub all_pop : {X : Type 0} (P : X → Type 0) (xs left : List X) (x : X) → xs ≡ left ++ x ∷ [] → All P xs → All P left × P x
+all_pop P xs left x is all = All-pop P xs left (Some x) is all
+
+-- what was seen is in front of a pass that has seen more
+pub all_seen : {X : Type 0} (f : X → List Event) (g h : List Event) (xs : List X) → IsPrefix g h → All (λ x. IsPrefix (f x) g) xs → All (λ x. IsPrefix (f x) h) xs
+all_seen f g h xs longer all = All-weaker (λ x. IsPrefix (f x) g) (λ x. IsPrefix (f x) h) (λ x seen. prefix_trans (f x) g h seen longer) xs all
+
+pub current_at : (tells : Bool) (p : Placement) (g h : List Event) (b k : ℕ) (told : Option (List Slot)) → g ≡ h → b ≡ k
+    → (tells ≡ true → is_free g ≡ true → is_enabled g b ≡ true → told ≡ Some (part p b (database_after (log g) (length (log g))))) → IsCurrentAt tells p h k told
+current_at tells p g h b k told same number held =
+    subst (λ (x : List Event). IsCurrentAt tells p x k told) same (subst (λ n. IsCurrentAt tells p g n told) number held)

@@ -201,7 +201,7 @@ impl<J: Naming, B: Backend> LockedCell<J, B> {
         ensures legal { IsLegal (front pass.new.seat) }
         ensures is { (result.0 ≡ self.old.cell.state.b) × (result.1 ≡ self.old.cell.state.position) }
         ensures noted { IfSome result.1 (λ n. Contains (pass_view pass.new.seat).position_notes (result.0, n)) }
-        ensures seen { IsPrefix self.old.cell.view.front (front pass.new.seat) }
+        ensures seen { IsPrefix self.new.cell.view.front (front pass.new.seat) }
         ensures state { self.new.cell.state ≡ self.old.cell.state }
     {
         let b = self.cell.number();
