@@ -5,7 +5,7 @@ use Rattle.cj_model.specs.Sql.PlainRequests.{request_of}
 use Rattle.cj_cluster.specs.History.Histories.{log}
 use Rattle.cj_board.specs.Counting.{event_count_of}
 use Rattle.cj_board.specs.Seats.{front, pass_view}
-use Rattle.cj_desk.specs.DeskStates.{next_call, turn_taken, DeskSteps}
+use Rattle.cj_desk.specs.DeskStates.{next_call, turn_taken, DeskSteps, IsEntryNumber}
 use Rattle.cj_locked.specs.Writing.{AreUpTo, WritesTurn}
 use Rattle.cj_place.specs.Layouts.{placement_of}
 use Rattle.cj_control.specs.Callers.{desk_at}
@@ -68,7 +68,10 @@ returns-in-Ok-clause-number g c =
     let reply = c.write-number.result.1 in
     let layout = g.J.Naming.layout in
     let came = subst (λ (x : Entry). WritesTurn g.B.Backend.tells (placement_of layout) x.session (record { front = F; least = self.least }) x number reply (record { front = G; least = least_after number self.least })) c.in-Ok.ensures.entry (c.write-number.ensures.turn self.least self.owes) in
-    write_number g.B.Backend.tells layout self.control.now.accounts self.session F G self.least self.queries c.args.tx c.args.user.now c.args.act number reply came
+    let register = self.control.now.accounts in
+    let before = desk_at layout register self.session F self.least self.queries in
+    subst (λ k. IsEntryNumber number c.args.act before (next_call before c.args.tx c.args.user.now (request_of c.args.act) reply) (desk_at layout register self.session G k (self.queries + 1))) (sym c.least_after-self.ensures)
+    (write_number g.B.Backend.tells layout register self.session F G self.least self.queries c.args.tx c.args.user.now c.args.act number reply came)
 
 pub invariant_of-self-in-Err : goal.invariant_of-self-in-Err
 invariant_of-self-in-Err g c =
