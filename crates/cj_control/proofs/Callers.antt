@@ -57,7 +57,7 @@ counts_none v w u s p q own none few =
 pub none_newer : (s : ℕ) (h : List Event) → 0 < s → IsLegal h → event_count_of s h ≡ 0 → AreUpTo s 0 (log h)
 none_newer s h some legal none =
     let few : event_count_of s h ≤ event_count_of s [] = omega (arith, none) in
-    (read_leaves s [] h some legal (h, refl) few).2 0 All-nil
+    (read_leaves s [] h some legal (h, refl) few).2 0 (All-nil (λ (d : Entry). d.session ≡ s → d.seq ≤ 0))
 
 -- ---- the session's next entry
 
@@ -73,9 +73,6 @@ module _ (F : List Event) (s queries tx : ℕ) (user : List ℕ) (act : Act) (ow
         newer = All-weaker (λ (d : Entry). d.session ≡ s → d.seq ≤ queries) (λ (d : Entry). d.session ≡ s → d.seq < queries + 1) (λ d old same. (let k : d.seq ≤ queries = old same in omega (arith, k))) (log F) newer;
         tx = fits;
       }
-
-  pub is_fit : (layout : Layout) (register : Register) (least : ℕ) → CanAskDesk (desk_at layout register s F least queries) user (request_of act) → IsFitEntry (log F) entry
-  is_fit layout register least can = record { written = can.written; user = can.short; by = inl is_next }
 
 -- ---- a write
 

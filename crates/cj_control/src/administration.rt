@@ -157,7 +157,8 @@ impl<J: Naming, B: Backend, S: Store + Drop> Control<J, B, S> {
     {
         let begun = self.begin_checkpoint(rt, pass, name);
         match begun {
-            Ok(Some(BegunMarker { item, mut turn })) => {
+            Ok(Some(begun)) => {
+                let BegunMarker { item, mut turn } = begun;
                 let appended = turn.append(item);
                 let marked = self.finish_checkpoint(rt, pass, turn, name, appended);
                 match marked {

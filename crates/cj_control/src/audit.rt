@@ -2,6 +2,7 @@
 
 ghost use Rattle.std.specs.Prelude.{◌≡◌, ◌++◌, ◌<◌, ℕ, true, List, length, IfErr, IfOk, OnOk, is_none};
 ghost use mathlib.Core.List.{IsPrefix};
+ghost use Rattle.cj_model.specs.declared.limits.TheConstants.{BACKEND_LIMIT};
 ghost use Rattle.cj_model.specs.Cluster.Masks.{in_mask};
 ghost use Rattle.cj_audit.specs.Audits.{StaysText};
 ghost use Rattle.cj_cluster.specs.declared.event.Event.{Event};
@@ -85,6 +86,7 @@ impl<J: Naming, B: Backend, S: Store + Drop> Control<J, B, S> {
         enabled: u32,
     ) -> Result<(), AdminError>
         requires backend { b < length J.layout.names }
+        requires few { b < BACKEND_LIMIT }
         ensures lines { OnOk result ((h : List Event) → IsPrefix h (front pass.old.seat) → n ≡ length (log h) → in_mask enabled b ≡ is_enabled h b → B.tells ≡ true → text.new.items ≡ text.old.items ++ audit_lines_at J.layout.names (placement_of J.layout) h b) }
         ensures text { OnOk result (StaysText text.old.items text.new.items) }
         ensures err { (h : List Event) → in_mask enabled b ≡ is_enabled h b → IfErr result (FailsAudit h (pass_view pass.old.seat) (pass_view pass.new.seat)) }

@@ -12,7 +12,7 @@ into_backend_at-requires g c =
     let l = c.loop-cell in
     record {
       seen = subst (λ (v : SeatView). IsPrefix c.in-Some.cell.cell.view.front v.front) (sym l.invariant.same)
-      (all_pop (λ x. IsPrefix x.cell.view.front (front c.args.pass.now.seat)) l.cells.items c.pop.new.self.items c.in-Some.cell c.in-Some.ensures.items l.invariant.seen).1;
+          (all_pop (λ x. IsPrefix x.cell.view.front (front c.args.pass.now.seat)) l.cells.items c.pop.new.self.items c.in-Some.cell c.in-Some.ensures.items l.invariant.seen).1;
     }
 
 pub loop-cell-preserved : goal.loop-cell-preserved

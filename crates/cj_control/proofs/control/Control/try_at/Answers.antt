@@ -11,7 +11,7 @@ returns-in-Failed-clause-failed g c = λ F before all.
     let q = c.args.query.now.seq in
     let h = front c.args.pass.now.seat in
     let G = front c.attempt.new.pass.seat in
-    one_more F h G s q c.args.tries.now.failed c.with_bit.result c.args.b c.attempt.ensures.seen.front c.with_bit.ensures.bits all (failed_earlier F h G s q c.args.b before c.in-Failed.ensures.attempt)
+    one_more F h G s q c.args.tries.now.failed c.with_bit-tries.result c.args.b c.attempt.ensures.seen.front c.with_bit-tries.ensures.bits all (failed_earlier F h G s q c.args.b before c.in-Failed.ensures.attempt)
 
 pub returns-in-Later-clause-failed : goal.returns-in-Later-clause-failed
 returns-in-Later-clause-failed g c = λ F before all. all_still F (front c.args.pass.now.seat) (front c.attempt.new.pass.seat) c.args.query.now.session c.args.query.now.seq c.args.tries.now.failed c.attempt.ensures.seen.front all
