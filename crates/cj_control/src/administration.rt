@@ -1,0 +1,315 @@
+//! What the administrator does at the book: disables a backend, marks a checkpoint, ends an orphan.
+
+ghost use Rattle.std.specs.Prelude.{◌≡◌, ◌≢◌, ◌<◌, ℕ, [], true, false, length, None, IfErr, IfOk, IfSome, IsNone, is_none};
+ghost use Rattle.cj_model.specs.Cluster.Masks.{in_mask};
+ghost use Rattle.cj_cluster.specs.declared.event.Event.TheVariants.{Disabled};
+ghost use Rattle.cj_cluster.specs.History.Histories.{has_marker, is_enabled};
+ghost use Rattle.cj_cluster.specs.History.Legality.{IsLegal};
+ghost use Rattle.cj_place.specs.Layouts.{placement_of};
+ghost use Rattle.cj_board.specs.Seats.{front, pass_view};
+ghost use Rattle.cj_book.specs.Books as books;
+ghost use Rattle.cj_locked.specs.Changes.{BringsSince};
+ghost use Rattle.cj_locked.specs.Marking.{BeginsMarkSince, HoldsMarked, MarksSince, RefusesMark};
+ghost use Rattle.cj_locked.specs.Orphans.{BeginsAbortSince, IsAbortOf, RefusesAbort, RefusesAppendedSince, SchedulesAbortSince};
+ghost use Rattle.cj_locked.specs.Passes.{HasNotedMore, HasSeenMore};
+ghost use Rattle.cj_locked.specs.Writing.{HoldsAppended, HoldsEntry};
+ghost use Rattle.cj_control.specs.Administration.{CanRefuse, ChecksSince, DisablesSince, EndsOrphanSince, IsRefusalOf};
+
+use crate::control::Control;
+use cj_backend::Backend;
+use cj_book::{BookError, Prepared};
+use cj_locked::{Begun, BegunAbort, BegunMarker, LockedBook, Naming, OpenEntry, Pass, Turn};
+use cj_log::LogError;
+use cj_model::{Entry, Name};
+use cj_outside::Store;
+use std::sync::Wait;
+use thiserror::Error;
+
+/// Why a call of the administrator is refused.
+#[derive(Clone, Copy, Debug, PartialEq, Eq, Error)]
+pub enum AdminError {
+    #[error("the backend is not enabled")]
+    NotEnabled,
+    #[error("a marker has the name already")]
+    NameTaken,
+    /// The transaction of this number is no orphan.
+    #[error("transaction {0} is no orphan")]
+    NotOrphan(u64),
+    /// The history has this many events, and no room for the event that was asked for.
+    #[error("the history of {0} events is full")]
+    HistoryFull(u64),
+    /// The log's store failed and counted a fault. The history has a new event that tells of the failure.
+    #[error("the store of the recovery log failed")]
+    LogFault,
+    /// The backend of this number failed.
+    #[error("backend {0} failed")]
+    Fault(u8),
+    #[error("out of memory")]
+    NoMemory,
+}
+
+/// Returns what the administrator reads if the book refuses.
+fn refusal_of(error: BookError) -> AdminError
+    requires { CanRefuse error }
+    ensures { IsRefusalOf error result }
+{
+    match error {
+        BookError::HistoryFull(events) => AdminError::HistoryFull(events),
+        BookError::LogFault => AdminError::LogFault,
+        BookError::NoMemory => AdminError::NoMemory,
+        BookError::InProgress(_) | BookError::NoBackend => unreachable!(),
+    }
+}
+
+impl<J: Naming, B: Backend, S: Store + Drop> Control<J, B, S> {
+    /// Waits for the turn, and disables the backend. False if it is disabled already.
+    fn disable_in_turn<R: Wait>(&self, rt: &R, pass: &mut Pass<J>, b: u8) -> Result<bool, BookError>
+        requires below { b < length J.layout.names }
+        ensures brings { BringsSince (front pass.old.seat) (front pass.new.seat) (Disabled b) (λ h. is_enabled h b) result }
+        ensures more { HasNotedMore (pass_view pass.old.seat) (pass_view pass.new.seat) }
+        ensures legal { IsLegal (front pass.new.seat) }
+    {
+        let mut book = self.turn_back.wait_while(
+            rt,
+            self.book.lock(rt),
+            |x: &mut LockedBook<J, S>| -> bool
+                ensures { result ≡ is_none x.new.log }
+            { x.is_taken() },
+        );
+        book.disable(&self.board, pass, b)
+    }
+
+    /// Disables a backend, so that it takes no further entry and answers no query. Waits for the turn.
+    pub fn disable<R: Wait>(&self, rt: &R, pass: &mut Pass<J>, b: u8) -> Result<(), AdminError>
+        requires below { b < length J.layout.names }
+        ensures disables { DisablesSince (front pass.old.seat) (front pass.new.seat) b result }
+        ensures more { HasNotedMore (pass_view pass.old.seat) (pass_view pass.new.seat) }
+        ensures legal { IsLegal (front pass.new.seat) }
+    {
+        let disabled = self.disable_in_turn(rt, pass, b);
+        self.turn_back.notify_one();
+        match disabled {
+            Ok(true) => Ok(()),
+            Ok(false) => Err(AdminError::NotEnabled),
+            Err(error) => Err(refusal_of(error)),
+        }
+    }
+
+    /// Waits for the turn, and begins a checkpoint's marker. None if a marker has the name.
+    fn begin_checkpoint<R: Wait>(
+        &self,
+        rt: &R,
+        pass: &mut Pass<J>,
+        name: &Name,
+    ) -> Result<Option<BegunMarker<J, S>>, BookError>
+        requires named { name.now ≢ [] }
+        ensures ok { IfOk result (λ begun. IfSome begun (λ x. BeginsMarkSince S.tells S.faults (front pass.old.seat) (front pass.new.seat) name.now None x.turn.share.amount x.turn.log x.item)) }
+        ensures taken { IfOk result (λ begun. IsNone begun → has_marker (front pass.new.seat) name.now ≡ true) }
+        ensures err { IfErr result (RefusesMark (front pass.new.seat)) }
+        ensures more { HasNotedMore (pass_view pass.old.seat) (pass_view pass.new.seat) }
+        ensures legal { IsLegal (front pass.new.seat) }
+    {
+        let mut book = self.turn_back.wait_while(
+            rt,
+            self.book.lock(rt),
+            |x: &mut LockedBook<J, S>| -> bool
+                ensures { result ≡ is_none x.new.log }
+            { x.is_taken() },
+        );
+        book.begin_marker(&self.board, pass, name, None)
+    }
+
+    /// Finishes a marker that was begun, gives the turn back, and wakes those who wait for it.
+    fn finish_checkpoint<R: Wait>(
+        &self,
+        rt: &R,
+        pass: &mut Pass<J>,
+        turn: Turn<J, S>,
+        name: &Name,
+        appended: Result<(), LogError>,
+    ) -> Result<u64, BookError>
+        requires holds { HoldsMarked S.tells S.faults (front pass.old.seat) name.now None turn.share.amount turn.log appended }
+        ensures marks { MarksSince (front pass.old.seat) (front pass.new.seat) name.now None result }
+        ensures more { HasNotedMore (pass_view pass.old.seat) (pass_view pass.new.seat) }
+        ensures legal { IsLegal (front pass.new.seat) }
+    {
+        let marked = self
+            .book
+            .lock(rt)
+            .finish_marker(&self.board, pass, turn, name, None, appended);
+        self.settled.notify_all();
+        self.turn_back.notify_one();
+        marked
+    }
+
+    /// Marks a checkpoint of this name, and returns how many entries come before it. Waits for the turn. No lock is
+    /// held while the log appends the marker.
+    pub fn checkpoint<R: Wait>(
+        &self,
+        rt: &R,
+        pass: &mut Pass<J>,
+        name: &Name,
+    ) -> Result<u64, AdminError>
+        requires named { name.now ≢ [] }
+        ensures checks { ChecksSince (front pass.old.seat) (front pass.new.seat) name.now result }
+        ensures more { HasNotedMore (pass_view pass.old.seat) (pass_view pass.new.seat) }
+        ensures legal { IsLegal (front pass.new.seat) }
+    {
+        let begun = self.begin_checkpoint(rt, pass, name);
+        match begun {
+            Ok(Some(begun)) => {
+                let BegunMarker { item, mut turn } = begun;
+                let appended = turn.append(item);
+                let marked = self.finish_checkpoint(rt, pass, turn, name, appended);
+                match marked {
+                    Ok(number) => Ok(number),
+                    Err(error) => Err(refusal_of(error)),
+                }
+            }
+            Ok(None) => {
+                self.turn_back.notify_one();
+                Err(AdminError::NameTaken)
+            }
+            Err(error) => {
+                self.turn_back.notify_one();
+                Err(refusal_of(error))
+            }
+        }
+    }
+
+    /// Waits for the turn, and begins the entry that ends an orphan. None if the transaction is no orphan.
+    fn begin_abort<R: Wait>(
+        &self,
+        rt: &R,
+        pass: &mut Pass<J>,
+        tx: u64,
+    ) -> Result<Option<BegunAbort<J, S>>, BookError>
+        ensures ok { IfOk result (λ begun. IfSome begun (λ x. BeginsAbortSince S.tells S.faults (placement_of J.layout) (front pass.old.seat) (front pass.new.seat) tx x.entry x.copy x.begun.prepared x.begun.turn.share.amount x.begun.turn.log x.begun.item)) }
+        ensures err { IfErr result (RefusesAbort (front pass.new.seat)) }
+        ensures more { HasNotedMore (pass_view pass.old.seat) (pass_view pass.new.seat) }
+        ensures legal { IsLegal (front pass.new.seat) }
+    {
+        let mut book = self.turn_back.wait_while(
+            rt,
+            self.book.lock(rt),
+            |x: &mut LockedBook<J, S>| -> bool
+                ensures { result ≡ is_none x.new.log }
+            { x.is_taken() },
+        );
+        book.begin_abort(self.alloc, &self.board, pass, tx)
+    }
+
+    /// Finishes what was begun. An orphan stays one until then, so this waits for nothing but the lock.
+    fn schedule_abort<R: Wait>(
+        &self,
+        rt: &R,
+        pass: &mut Pass<J>,
+        turn: Turn<J, S>,
+        e: Entry,
+        prepared: Prepared,
+        appended: Result<(), LogError>,
+    ) -> Result<OpenEntry<J, S>, BookError>
+        requires aborts { IsAbortOf e.tx e }
+        requires holds { HoldsAppended S.tells S.faults (placement_of J.layout) (front pass.old.seat) e prepared turn.share.amount turn.log appended }
+        ensures ok { IfOk result (λ entry. HoldsEntry S.tells S.faults (placement_of J.layout) (front pass.new.seat) entry.number e entry.turn.share.amount entry.turn.log) }
+        ensures since { IfOk result (λ entry. SchedulesAbortSince (placement_of J.layout) (front pass.old.seat) (front pass.new.seat) entry.number e) }
+        ensures enabled { IfOk result (λ entry. (b : ℕ) → in_mask entry.enabled b ≡ is_enabled (front pass.new.seat) b) }
+        ensures err { IfErr result (RefusesAppendedSince (front pass.old.seat) (front pass.new.seat)) }
+        ensures more { HasNotedMore (pass_view pass.old.seat) (pass_view pass.new.seat) }
+        ensures legal { IsLegal (front pass.new.seat) }
+    {
+        let tx = e.tx;
+        let mut book = self.settled.wait_while(
+            rt,
+            self.book.lock(rt),
+            |x: &mut LockedBook<J, S>| -> bool
+                ensures { result ≡ false → books.is_orphan x.new.book.state tx ≡ true }
+            { !x.is_orphan(tx) },
+        );
+        book.finish_abort(&self.board, pass, turn, e, prepared, appended)
+    }
+
+    /// Finishes what was begun, and wakes those who wait for it.
+    fn finish_abort<R: Wait>(
+        &self,
+        rt: &R,
+        pass: &mut Pass<J>,
+        turn: Turn<J, S>,
+        e: Entry,
+        prepared: Prepared,
+        appended: Result<(), LogError>,
+    ) -> Result<OpenEntry<J, S>, BookError>
+        requires aborts { IsAbortOf e.tx e }
+        requires holds { HoldsAppended S.tells S.faults (placement_of J.layout) (front pass.old.seat) e prepared turn.share.amount turn.log appended }
+        ensures ok { IfOk result (λ entry. HoldsEntry S.tells S.faults (placement_of J.layout) (front pass.new.seat) entry.number e entry.turn.share.amount entry.turn.log) }
+        ensures since { IfOk result (λ entry. SchedulesAbortSince (placement_of J.layout) (front pass.old.seat) (front pass.new.seat) entry.number e) }
+        ensures enabled { IfOk result (λ entry. (b : ℕ) → in_mask entry.enabled b ≡ is_enabled (front pass.new.seat) b) }
+        ensures err { IfErr result (RefusesAppendedSince (front pass.old.seat) (front pass.new.seat)) }
+        ensures more { HasNotedMore (pass_view pass.old.seat) (pass_view pass.new.seat) }
+        ensures legal { IsLegal (front pass.new.seat) }
+    {
+        let finished = self.schedule_abort(rt, pass, turn, e, prepared, appended);
+        self.settled.notify_all();
+        if finished.is_err() {
+            self.turn_back.notify_one();
+        }
+        finished
+    }
+
+    /// Has the log append the entry that was begun, with no lock held, and has the cells carry it out. Returns its
+    /// number.
+    fn carry_out_abort<R: Wait>(
+        &self,
+        rt: &R,
+        pass: &mut Pass<J>,
+        begun: BegunAbort<J, S>,
+    ) -> Result<u64, AdminError>
+        requires begins { BeginsAbortSince S.tells S.faults (placement_of J.layout) (front pass.old.seat) (front pass.old.seat) begun.entry.tx begun.entry begun.copy begun.begun.prepared begun.begun.turn.share.amount begun.begun.turn.log begun.begun.item }
+        ensures ends { EndsOrphanSince B.tells (placement_of J.layout) (front pass.old.seat) (front pass.new.seat) begun.entry.tx result }
+        ensures seen { HasSeenMore (pass_view pass.old.seat) (pass_view pass.new.seat) }
+        ensures legal { IsLegal (front pass.new.seat) }
+    {
+        let BegunAbort { begun, entry, copy } = begun;
+        let Begun {
+            item,
+            prepared,
+            mut turn,
+        } = begun;
+        let appended = turn.append(item);
+        let finished = self.finish_abort(rt, pass, turn, entry, prepared, appended);
+        match finished {
+            Ok(open) => {
+                let number = open.number;
+                self.carry_out(rt, pass, open, &copy);
+                Ok(number)
+            }
+            Err(error) => Err(refusal_of(error)),
+        }
+    }
+
+    /// Ends an orphan, a transaction whose session has closed, by an entry, and returns the number of that. Waits for
+    /// the turn.
+    pub fn abort_orphan<R: Wait>(
+        &self,
+        rt: &R,
+        pass: &mut Pass<J>,
+        tx: u64,
+    ) -> Result<u64, AdminError>
+        ensures ends { EndsOrphanSince B.tells (placement_of J.layout) (front pass.old.seat) (front pass.new.seat) tx result }
+        ensures seen { HasSeenMore (pass_view pass.old.seat) (pass_view pass.new.seat) }
+        ensures legal { IsLegal (front pass.new.seat) }
+    {
+        let begun = self.begin_abort(rt, pass, tx);
+        match begun {
+            Ok(Some(begun)) => self.carry_out_abort(rt, pass, begun),
+            Ok(None) => {
+                self.turn_back.notify_one();
+                Err(AdminError::NotOrphan(tx))
+            }
+            Err(error) => {
+                self.turn_back.notify_one();
+                Err(refusal_of(error))
+            }
+        }
+    }
+}

@@ -1,0 +1,191 @@
+//! How a cluster that threads share is made of a world that has started, and how it is taken apart.
+
+ghost use Rattle.std.specs.Prelude.{◌≡◌, ℕ, ◌≤◌, All, IfOk, IfSome, OnOk, length, vec_capacity};
+ghost use mathlib.Core.List.{IsPrefix};
+ghost use Rattle.atomic_table.specs.Seated.{TableId};
+ghost use Rattle.cj_model.specs.declared.limits.TheConstants.{BACKEND_LIMIT};
+ghost use Rattle.cj_board.specs.Seats.{board_id, front, pass_board, pass_view};
+ghost use Rattle.cj_board.specs.Steps.{after_join};
+ghost use Rattle.cj_board.specs.Views.{pass_without_tokens};
+ghost use Rattle.cj_cluster.specs.History.Legality.{IsLegal};
+ghost use Rattle.cj_place.specs.Layouts.{placement_of};
+ghost use Rattle.cj_replica.specs.Seated.{SeatedCell};
+ghost use Rattle.cj_state.specs.Seats.{AreCellsAt};
+ghost use Rattle.cj_locked.specs.Passes.{HasNotedMore};
+ghost use Rattle.cj_control.specs.Starting.{AreOfStarted, FallTo, HoldFrom, IsCurrentAt};
+
+use crate::control::Control;
+use cj_backend::Backend;
+use cj_locked::{LockedBook, LockedCell, NamedBoard, Naming, Pass, Turn};
+use cj_model::{Duplicate, ListOf, NoMemory};
+use cj_outside::Store;
+use cj_replica::Cell;
+use cj_state::Shared;
+use std::alloc::Global;
+use std::sync::ledger::Blank;
+use std::sync::{Condvar, Mutex};
+
+/// Puts each cell behind a lock, in the same order.
+fn locked<J: Naming, B: Backend + Drop>(
+    alloc: Global,
+    mut cells: Vec<Cell<B>>,
+) -> Result<Vec<Mutex<LockedCell<J, B>>>, NoMemory>
+    requires at { AreCellsAt J.board cells.items }
+    requires placed { All (λ (x : SeatedCell). x.state.placement ≡ placement_of J.layout) cells.items }
+    ensures as_many { IfOk result (λ locks. length locks.items ≡ length cells.items) }
+{
+    let mut locks = Vec::with_capacity(alloc, cells.len())?;
+    while let Some(cell) = cells.pop() {
+        locks.push_reserved(Mutex::new(LockedCell::new(cell)));
+    }
+    locks.reverse();
+    Ok(locks)
+}
+
+/// Takes the cells out of their locks, the last one first, and has each tell the pass what it has seen. Then all that
+/// they have seen is in front of the pass. None if a cell has not the number of its place, which never comes.
+fn unlocked<J: Naming, B: Backend + Drop>(
+    board: &NamedBoard<J>,
+    pass: &mut Pass<J>,
+    mut locks: Vec<Mutex<LockedCell<J, B>>>,
+    mut cells: Vec<LockedCell<J, B>>,
+) -> Option<Vec<LockedCell<J, B>>>
+    requires empty { length cells.items ≡ 0 }
+    requires room { length locks.items ≤ vec_capacity cells }
+    requires legal { IsLegal (front pass.old.seat) }
+    ensures more { HasNotedMore (pass_view pass.old.seat) (pass_view pass.new.seat) }
+    ensures legal { IsLegal (front pass.new.seat) }
+    ensures as_many { IfSome result (λ cells. length cells.items ≡ length locks.items) }
+    ensures numbered { IfSome result (λ cells. FallTo (λ x. x.cell.state.b) 0 cells.items) }
+    ensures seen { IfSome result (λ cells. All (λ x. IsPrefix x.cell.view.front (front pass.new.seat)) cells.items) }
+{
+    while let Some(lock) = locks.pop() {
+        let mut cell = lock.into_inner();
+        let (b, _) = cell.look(board, pass);
+        if b as usize != locks.len() {
+            return None;
+        }
+        cells.push_reserved(cell);
+    }
+    Some(cells)
+}
+
+/// Takes the backends out of their cells, the last cell first, which is that of backend 0.
+fn backends_of<J: Naming, B: Backend + Drop>(
+    board: &NamedBoard<J>,
+    pass: &mut Pass<J>,
+    mut cells: Vec<LockedCell<J, B>>,
+    mut backends: Vec<B>,
+) -> Vec<B>
+    requires empty { length backends.items ≡ 0 }
+    requires room { length cells.items ≤ vec_capacity backends }
+    requires numbered { FallTo (λ x. x.cell.state.b) 0 cells.items }
+    requires seen { All (λ x. IsPrefix x.cell.view.front (front pass.old.seat)) cells.items }
+    ensures same { pass_view pass.new.seat ≡ pass_view pass.old.seat }
+    ensures as_many { length result.items ≡ length cells.items }
+    ensures current { HoldFrom (λ b x. IsCurrentAt B.tells (placement_of J.layout) (front pass.old.seat) b (B.told x)) 0 result.items }
+{
+    while let Some(cell) = cells.pop() {
+        backends.push_reserved(cell.into_backend_at(board, pass));
+    }
+    backends
+}
+
+impl<J: Naming, B: Backend + Drop, S: Store + Drop> Control<J, B, S> {
+    /// Puts the parts of a world that has started behind locks, with a turn that nobody has. The pass has seen the
+    /// world's history. `blank` is a new ledger of one part. The world's dumps are dropped, of which it has none.
+    ///
+    /// `NoMemory` drops all parts, the log's store among them.
+    pub fn start(
+        alloc: Global,
+        shared: Shared<B, S>,
+        blank: Blank,
+    ) -> Result<(Control<J, B, S>, Pass<J>), NoMemory>
+        requires world { AreOfStarted B.tells S.tells S.faults (board_id shared.board) (pass_board shared.pass) shared.book shared.recovery_log shared.cells.items shared.accounts shared.dumps }
+        requires board { board_id shared.board ≡ J.board }
+        requires layout { shared.book.state.layout ≡ J.layout }
+        requires turn { (blank.name ≡ J.turn) × (blank.parts ≡ 1) }
+        requires tells { J.tells ≡ B.tells }
+        requires emptied { (length shared.emptied.items ≡ 0) × (BACKEND_LIMIT ≤ vec_capacity shared.emptied) }
+        ensures placement { IfOk result (λ started. started.0.placement ≡ shared.book.state.layout) }
+        ensures accounts { IfOk result (λ started. started.0.accounts ≡ shared.accounts) }
+        ensures seen { IfOk result (λ started. front started.1.seat ≡ shared.book.state.history) }
+        ensures legal { IfOk result (λ started. IsLegal (front started.1.seat)) }
+    {
+        let Shared {
+            board,
+            pass,
+            book,
+            recovery_log,
+            cells,
+            accounts,
+            emptied,
+            ..
+        } = shared;
+        let placement = book.placement().copy(alloc)?;
+        let unlocked = Vec::with_capacity(alloc, cells.len())?;
+        let cells = locked(alloc, cells)?;
+        let (ledger, share) = blank.open();
+        let board = NamedBoard::new(board);
+        let mut pass = Pass::new(pass);
+        let mut book = LockedBook::new(book, ledger, Turn::new(share, recovery_log));
+        book.tell(&board, &mut pass);
+        let keeps = !book.keeps_none();
+        let control = Control {
+            alloc,
+            board,
+            book: Mutex::new(book),
+            turn_back: Condvar::new(),
+            settled: Condvar::new(),
+            cells,
+            placement,
+            accounts,
+            keeps,
+            unlocked,
+            emptied,
+        };
+        Ok((control, pass))
+    }
+
+    /// Makes another pass that has seen the same, with the same notes. The fault tokens stay with the first.
+    pub fn split(&self, pass: &mut Pass<J>) -> Pass<J>
+        ensures pass { pass_view pass.new.seat ≡ pass_view pass.old.seat }
+        ensures other { pass_view result.seat ≡ pass_without_tokens (pass_view pass.old.seat) }
+    {
+        self.board.split(pass)
+    }
+
+    /// Joins another pass: this one has then seen what either has, with the notes and fault tokens of both.
+    pub fn rejoin(&self, pass: &mut Pass<J>, other: Pass<J>)
+        ensures pass { pass_view pass.new.seat ≡ after_join (pass_view pass.old.seat) (pass_view other.seat) }
+        ensures more { HasNotedMore (pass_view pass.old.seat) (pass_view pass.new.seat) }
+        ensures other { IsPrefix (front other.seat) (front pass.new.seat) }
+    {
+        self.board.rejoin(pass, other);
+    }
+
+    /// Takes the cluster apart, and gives the backends in the order of their numbers. The pass has seen the history
+    /// then, in which they are current. This takes no memory, and drops the log's store.
+    ///
+    /// None if a cell has not the number of its place. That never comes, but no type of a lock says so.
+    pub fn into_backends(self, pass: &mut Pass<J>) -> Option<ListOf<B>>
+        ensures more { HasNotedMore (pass_view pass.old.seat) (pass_view pass.new.seat) }
+        ensures legal { IsLegal (front pass.new.seat) }
+        ensures as_many { IfSome result (λ backends. length backends ≡ length self.placement.names) }
+        ensures current { IfSome result (HoldFrom (λ b x. IsCurrentAt B.tells (placement_of J.layout) (front pass.new.seat) b (B.told x)) 0) }
+    {
+        let Control {
+            board,
+            book,
+            cells,
+            unlocked: empty,
+            emptied,
+            ..
+        } = self;
+        let mut book = book.into_inner();
+        book.tell(&board, pass);
+        let cells = unlocked(&board, pass, cells, empty)?;
+        let backends = backends_of(&board, pass, cells, emptied);
+        Some(ListOf::from_vec(backends))
+    }
+}
