@@ -25,5 +25,5 @@ loop-lock-preserved g c =
       room = stays_room l.invariant.room c.push_reserved.ensures.capacity;
       numbered = fall_more (λ x. x.cell.state.b) l.locks.items c.pop.new.self.items c.in-Some.lock popped l.cells.items c.push_reserved.new.self.items cell pushed l.invariant.numbered (ap (λ (x : CellState). x.b) c.look-b.ensures.state ∙ (sym c.look-b.ensures.is.0 ∙ (placed ∙ counted)));
       seen = subst (λ xs. All (λ x. IsPrefix x.cell.view.front (front c.look-b.new.pass.seat)) xs) (sym pushed)
-      (All-push (λ x. IsPrefix x.cell.view.front (front c.look-b.new.pass.seat)) l.cells.items cell (all_seen (λ x. x.cell.view.front) (front l.pass.seat) (front c.look-b.new.pass.seat) l.cells.items c.look-b.ensures.more.seen.front l.invariant.seen) c.look-b.ensures.seen);
+          (All-push (λ x. IsPrefix x.cell.view.front (front c.look-b.new.pass.seat)) l.cells.items cell (all_seen (λ x. x.cell.view.front) (front l.pass.seat) (front c.look-b.new.pass.seat) l.cells.items c.look-b.ensures.more.seen.front l.invariant.seen) c.look-b.ensures.seen);
     }
