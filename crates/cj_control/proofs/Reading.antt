@@ -1,11 +1,9 @@
 -- How a session's query goes on, and how it ends.
-use Rattle.std.proofs.Common.{◌≡◌, ◌⊎◌, inl, inr, ⊎_elim, ℕ, ◌-◌, ◌+◌, ◌^◌, ◌<◌, ◌≤◌, ◌&&◌, ◌||◌, ◌==◌, not, bit_and, Bool, true, false, List, length, Option, None, Some, IfSome, Result, Ok, Err, IfOk, refl, ap, sym, ◌∙◌, subst, arith, eqb-true}
+use Rattle.std.proofs.Common.{◌≡◌, ◌⊎◌, ⊎_elim, ℕ, ◌-◌, ◌^◌, ◌<◌, ◌≤◌, ◌&&◌, ◌||◌, ◌==◌, not, bit_and, Bool, true, false, List, length, Option, None, Some, IfSome, refl, ap, sym, ◌∙◌, subst, arith, eqb-true}
 use mathlib.Core.List.{IsPrefix}
 use Rattle.std.proofs.lemmas.Bool.{both_ways}
 use Rattle.cj_model.specs.declared.answer.Answer.{Answer}
 use Rattle.cj_model.specs.declared.answer.Asked.{Asked}
-use Rattle.cj_model.specs.declared.answer.Asked.TheVariants as asked
-use Rattle.cj_model.specs.declared.answer.Refusal.{Refusal}
 use Rattle.cj_model.specs.declared.answer.Reply.{Reply}
 use Rattle.cj_model.specs.declared.answer.Reply.TheVariants.{Refused, Rows}
 use Rattle.cj_model.specs.declared.codes.TheConstants.{HISTORY_FULL, NO_BACKEND, NO_MEMORY, READ_FAULT}
@@ -30,10 +28,10 @@ use Rattle.cj_locked.specs.declared.look.Look.{Look}
 use Rattle.cj_locked.specs.Failures.{FailsSince}
 use Rattle.cj_locked.specs.Looking.{AreAllTried, IsLookAt, IsOwedAt, IsRightAt}
 use Rattle.cj_locked.specs.Passes.{HasSeenMore}
-use Rattle.cj_locked.specs.Reading.{call_of_query, answered, full, in_vain, kept, refused, starved, unserved, EndsRead, GivesAnswerAt, IsRefusedSince, RefusesQuery}
+use Rattle.cj_locked.specs.Reading.{call_of_query, answered, full, in_vain, kept, refused, starved, unserved, EndsRead, GivesAnswerAt}
 use Rattle.cj_locked.specs.Writing.{AreUpTo}
 use Rattle.cj_locked.proofs.Ending.{has_less}
-use Rattle.cj_locked.proofs.Reading.{failed_now, failed_still, read_leaves, turn_of_read}
+use Rattle.cj_locked.proofs.Reading.{failed_still, read_leaves, turn_of_read}
 use Rattle.cj_locked.proofs.Writing.{still_counted}
 use Rattle.cj_control.specs.declared.read.Attempt.{Attempt}
 use Rattle.cj_control.specs.declared.read.Attempt.TheVariants as attempt
@@ -68,10 +66,6 @@ one_more F h G s q old new b longer bits all last = λ c on. by c (in_mask old c
     by c true is y same on = failed_still F h G s q c longer (all c is)
     by c false is true same on = subst (λ k. HasFailedSince F G s q k) (sym (eqb-true c b same)) last
     by c false is false same on = absurd (both_ways false refl on)
-
--- no backend of the empty mask has failed
-pub none_yet : (F G : List Event) (s q : ℕ) → HaveFailedSince F G s q 0
-none_yet F G s q = λ b on. absurd (both_ways (in_mask 0 b) (has-zero b) on)
 
 -- ---- how a query ends
 
@@ -215,9 +209,6 @@ module _ (tells : Bool) (p : Placement) (s q tx : ℕ) (user : List ℕ) (select
 
   pub read_newer : (k : ℕ) → AreUpTo s k (log v.front) → AreUpTo s k (log u.front)
   read_newer = (read_leaves s v.front u.front some read_legal stands.2 few).2
-
-  pub read_own : u.own_session ≡ s
-  read_own = ap (λ (z : SeatView). z.own_session) same ∙ (more.own ∙ own)
 
   pub read_counted : event_count_of s u.front ≡ u.count
   read_counted = stands.1

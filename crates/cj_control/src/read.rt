@@ -16,7 +16,7 @@ ghost use Rattle.cj_cluster.specs.declared.event.Event.{Event};
 ghost use Rattle.cj_cluster.specs.History.Answering.{CanServe};
 ghost use Rattle.cj_cluster.specs.History.Histories.{log, tx_of};
 ghost use Rattle.cj_cluster.specs.History.Legality.{IsLegal};
-ghost use Rattle.cj_cluster.specs.History.Turns.{Turn, entry_count_of};
+ghost use Rattle.cj_cluster.specs.History.Turns.{Turn};
 ghost use Rattle.cj_place.specs.Layouts.{placement_of};
 ghost use Rattle.cj_board.specs.Counting.{event_count_of};
 ghost use Rattle.cj_board.specs.Points.{fault_tokens_of};
@@ -38,7 +38,7 @@ use cj_model::{
 use cj_outside::Store;
 use cj_replica::CellReadError;
 use std::alloc::Global;
-use std::sync::{Arc, Wait};
+use std::sync::Wait;
 
 /// A query of a session.
 #[derive(Drop)]

@@ -1,6 +1,6 @@
 use Rattle.cj_board.specs.Seats.{pass_view}
 use Rattle.cj_place.specs.Layouts.{placement_of}
-use Rattle.cj_control.proofs.Reading.{read_counted, read_legal, read_newer, read_own, read_turn, read_tx, read_within}
+use Rattle.cj_control.proofs.Reading.{read_counted, read_newer, read_turn, read_tx, read_within}
 use Rattle.cj_control.proofs.control.Control.read.Goals as goal
 
 pub returns-clause-turn : goal.returns-clause-turn

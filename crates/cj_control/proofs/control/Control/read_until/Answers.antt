@@ -1,8 +1,7 @@
 use Rattle.std.proofs.Common.{◌≤◌, length, arith}
 use Rattle.cj_cluster.specs.History.Histories.{log}
 use Rattle.cj_cluster.proofs.Pushed.{log-prefix, prefix_length}
-use Rattle.cj_board.specs.Seats.{front, pass_view}
-use Rattle.cj_locked.proofs.Passes.{seen_then}
+use Rattle.cj_board.specs.Seats.{front}
 use Rattle.cj_control.proofs.control.Control.read_until.Goals as goal
 
 pub round-requires-clause-owes : goal.round-requires-clause-owes

@@ -8,7 +8,6 @@ use Rattle.cj_model.specs.Cluster.Masks.{in_mask}
 use Rattle.cj_model.specs.Database.Inserts.{refusal_of_code}
 use Rattle.cj_cluster.proofs.Pushed.{prefix_self, prefix_trans}
 use Rattle.cj_board.specs.Seats.{front}
-use Rattle.cj_locked.specs.declared.look.Look.{Look}
 use Rattle.cj_locked.specs.declared.look.Look.TheVariants.{Kept, Tried, Unserved}
 use Rattle.cj_locked.specs.Reading.{EndsRead}
 use Rattle.cj_place.specs.Layouts.{placement_of}
