@@ -1,11 +1,13 @@
 -- What the parts of a world that has started give, and cells and backends in a row.
-use Rattle.std.proofs.Common.{◌≡◌, ℕ, ◌+◌, ◌<◌, ◌≤◌, Bool, true, cond, suc, List, [], ◌∷◌, ◌++◌, All, Option, Some, length, map, get_or, refl, ap, sym, ◌∙◌, subst, arith, length-append}
+use Rattle.std.proofs.Common.{◌≡◌, ℕ, ◌+◌, ◌<◌, ◌≤◌, Bool, true, cond, suc, List, [], ◌∷◌, ◌++◌, inl, max, All, Option, Some, length, map, get_or, refl, ap, sym, ◌∙◌, subst, arith, length-append}
+use Rattle.std.proofs.Math.Nat.{le-max_left}
 use mathlib.Core.List.{IsPrefix}
 use Rattle.std.proofs.lemmas.List.{get_or-map, length-map}
 use Rattle.std.proofs.lemmas.List.Elements.{All-from_get_or, All-nil, All-pop, All-weaker}
 use Rattle.std.proofs.lemmas.List.Sums.{sum_by-append, sum_by-cons}
 use Rattle.atomic_table.specs.Seated.{TableId}
 use Rattle.cj_auth.specs.Admission.{Register}
+use Rattle.cj_board.specs.Counting.{greatest_of, session_after, sessions_in}
 use Rattle.cj_book.specs.BookLogs.{BookLogState}
 use Rattle.cj_book.specs.Seated.{GivesOwnPassesOnly, SeatedBook}
 use Rattle.cj_cluster.specs.declared.event.Event.{Event}
@@ -25,6 +27,7 @@ use Rattle.cj_replica.specs.Cells.{CellState}
 use Rattle.cj_replica.specs.Seated.{SeatedCell}
 use Rattle.cj_start.specs.Started.{with_abort, AbortsEach}
 use Rattle.cj_state.specs.Seats.{states_of}
+use Rattle.cj_locked.specs.Locked.{LastIsNoted}
 use Rattle.cj_locked.specs.Turns.{needs_turn, turn_events_of}
 use Rattle.cj_control.specs.Starting.{AreOfStarted, FallTo, HoldFrom, IsCurrentAt}
 
@@ -88,6 +91,18 @@ module _ {S : Type 0} (tells logged : Bool) (count : S → ℕ) (id pass : Table
 
   pub started_fresh : IsFreshCache tells (log b.state.history) b.state.cache
   started_fresh = rw (of.apart.book.history, of.apart.book.cache) of.fresh
+
+  -- no session was given an own pass, so none has a number that is not in the history
+  pub started_noted : LastIsNoted b.view
+  started_noted =
+      let last = b.view.last_given in
+      let most = greatest_of (sessions_in b.view.front) in
+      let gives : b.state.greatest + 1 ≡ suc (max last most) = started_gives in
+      let same : b.view.front ≡ of.world.core.history = of.apart.front ∙ of.apart.book.history in
+      let follows : of.world.core.greatest + 1 ≡ suc (max 0 most) = subst (λ (h : List Event). of.world.core.greatest + 1 ≡ session_after 0 h) (sym same) of.numbers in
+      let greatest : b.state.greatest ≡ of.world.core.greatest = of.apart.book.greatest in
+      let up : last ≤ max last most = le-max_left last most in
+      let below : last < suc (max 0 most) = omega (arith, gives, follows, greatest, up) in record { known = inl below }
 
   pub started_placed : All (λ (x : SeatedCell). x.state.placement ≡ placement_of b.state.layout) xs
   started_placed =

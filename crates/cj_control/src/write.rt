@@ -127,7 +127,11 @@ impl<J: Naming, B: Backend, S: Store + Drop> Control<J, B, S> {
                 let appended = turn.append(item);
                 self.finish(rt, pass, turn, e, prepared, appended)
             }
-            Err(error) => Err(error),
+            Err(error) => {
+                // Who was woken for the turn and is refused wakes the next.
+                self.turn_back.notify_one();
+                Err(error)
+            }
         }
     }
 

@@ -9,11 +9,11 @@ ghost use Rattle.cj_desk.specs.DeskStates.{desk_tx};
 use crate::lines::Lines;
 use crate::statements::{drawn_session, session_of};
 use cj_backend::Backend;
-use cj_control::Control;
+use cj_control::{Caller, Control};
 use cj_desk::{Desk, Written};
 use cj_locked::{Naming, Pass};
 use cj_model::{Act, NoMemory, Reply, Request, Text, USER_LIMIT};
-use cj_outside::{Draw, FixedClock, MemSink, MemSource, PcgDraw, Store};
+use cj_outside::{FixedClock, MemSink, MemSource, PcgDraw, Store};
 use cj_session::serve_session;
 use cj_sql::read;
 use std::alloc::Global;
@@ -57,31 +57,39 @@ pub fn serve_one<J: Naming, B: Backend, S: Store + Drop, R: Wait>(
     lines.add("\n")
 }
 
-/// One request of a client that has a session of its own for each, and tells it as one of session 0. Two texts ask the
-/// same, so that the cache does not answer each second one.
+/// Reads by a session, and tells it as a request of session 0.
+fn read_by<J: Naming, B: Backend, S: Store + Drop, R: Wait>(
+    rt: &R,
+    alloc: Global,
+    caller: &mut Caller<'_, J, B, S>,
+    text: &str,
+    lines: &mut Lines,
+) -> Result<(), NoMemory> {
+    let sent = session_of(alloc, text)?;
+    lines.add("planted 0")?;
+    lines.add_bytes(&sent)?;
+    let sink = served(rt, alloc, caller, sent);
+    lines.add_bytes(sink.content())?;
+    lines.add("\n")
+}
+
+/// Two requests of a client that reads by several sessions in turn, so that the second may read what is older than it
+/// was answered first. Two texts ask the same, so that the cache does not answer the second.
 pub fn read_planted<J: Naming, B: Backend, S: Store + Drop, R: Wait>(
     rt: &R,
     alloc: Global,
     control: &Control<J, B, S>,
     pass: &mut Pass<J>,
-    draw: &mut PcgDraw,
     lines: &mut Lines,
 ) -> Result<(), NoMemory> {
-    let text = if draw.below(2) == 0 {
-        "SELECT * FROM t0"
-    } else {
-        "SELECT k, v FROM t0"
-    };
-    let sent = session_of(alloc, text)?;
-    let Ok(mut caller) = control.caller(rt, pass) else {
+    let (Ok(mut one), Ok(mut other)) = (control.caller(rt, pass), control.caller(rt, pass)) else {
         return Ok(());
     };
-    lines.add("planted 0")?;
-    lines.add_bytes(&sent)?;
-    let sink = served(rt, alloc, &mut caller, sent);
-    control.leave(rt, caller, pass);
-    lines.add_bytes(sink.content())?;
-    lines.add("\n")
+    read_by(rt, alloc, &mut one, "SELECT * FROM t0", lines)?;
+    read_by(rt, alloc, &mut other, "SELECT k, v FROM t0", lines)?;
+    control.leave(rt, one, pass);
+    control.leave(rt, other, pass);
+    Ok(())
 }
 
 /// The user of all sessions.

@@ -7,7 +7,7 @@ ghost use Rattle.cj_flaky.specs.FlakyBackends.{fresh_over};
 ghost use Rattle.cj_mem.specs.MemoryBackends.{fresh_state};
 
 use crate::gate::Slow;
-use crate::tasks::Placed;
+use crate::tasks::{Placed, Plan};
 use cj_balance::Balancer;
 use cj_book::BookParts;
 use cj_cache::Cache;
@@ -22,8 +22,12 @@ use std::alloc::Global;
 /// A backend that fails in some calls, and whose writes take time.
 pub type Tried = Gated<Flaky<MemBackend>, Slow>;
 
-/// So many steps each write of a backend takes, and a backend that fails does so in so many calls of the first `LAST`.
+/// So many steps each write of a backend takes. With a planted fault they are more, so that it shows at once.
 const STEPS: u32 = 20000;
+
+const STEPS_PLANTED: u32 = 200000;
+
+/// A backend that fails does so in so many calls of the first `LAST`.
 
 const FAILS: u64 = 6;
 
@@ -124,25 +128,21 @@ fn drawn_fails(alloc: Global, draw: &mut PcgDraw) -> Result<ListOf<u64>, NoMemor
 }
 
 /// Makes so many empty backends. If some calls fail, those of the first backend do not.
-pub fn tried_backends(
-    alloc: Global,
-    count: u8,
-    seed: u64,
-    fails: bool,
-) -> Result<Backends<Tried>, NoMemory>
+pub fn tried_backends(alloc: Global, count: u8, plan: Plan) -> Result<Backends<Tried>, NoMemory>
     ensures count { IfOk result (λ backends. length backends ≡ count) }
     ensures fresh { IfOk result (All (λ b. b.inner ≡ fresh_over fresh_state b.inner.fails)) }
 {
-    let mut draw = PcgDraw::new(seed);
+    let mut draw = PcgDraw::new(plan.seed);
     let mut backends = Backends::new(alloc);
+    let steps = if plan.plants { STEPS_PLANTED } else { STEPS };
     for b in 0..count {
-        let listed = if fails && b > 0 {
+        let listed = if plan.fails && b > 0 {
             drawn_fails(alloc, &mut draw)?
         } else {
             ListOf::new(alloc)
         };
         let flaky = Flaky::new(MemBackend::new(alloc), listed);
-        backends.push(Gated::new(flaky, Slow::new(STEPS)))?;
+        backends.push(Gated::new(flaky, Slow::new(steps)))?;
     }
     Ok(backends)
 }

@@ -32,7 +32,11 @@ use std::rt::Files;
 const LOG: &str = "stress.log";
 
 /// Adds a line with the bytes of the recovery log.
-fn with_log<R: Files<File = File>>(alloc: Global, rt: R, mut text: Vec<u8>) -> Option<Vec<u8>> {
+fn with_log<R: Files<File = File> + Copy>(
+    alloc: Global,
+    rt: R,
+    mut text: Vec<u8>,
+) -> Option<Vec<u8>> {
     let path = String::from_str(alloc, LOG).ok()?;
     let bytes = read_store(alloc, &mut FileStore::open_to_read(rt, path)).ok()?;
     let digits = hex::encode(alloc, bytes).ok()?;

@@ -71,13 +71,20 @@ fn requests_of(alloc: Global, writes: bool, count: u64, seed: u64) -> Result<Vec
     Ok(frames)
 }
 
+/// The statement that makes the rows.
+fn insert(alloc: Global) -> Result<String, NoMemory> {
+    let mut text = String::from_str(alloc, "INSERT INTO t VALUES (0, 0)")?;
+    for k in 1..ROWS {
+        let tuple = format!(in alloc; ", ({k}, {k})")?;
+        text.push_str(tuple.as_str())?;
+    }
+    Ok(text)
+}
+
 /// The requests that make the table and its rows.
 fn rows(alloc: Global) -> Result<Vec<u8>, NoMemory> {
     let mut frames = session_of(alloc, "CREATE TABLE t (k INTEGER PRIMARY KEY, v INTEGER)")?;
-    for k in 0..ROWS {
-        let text = format!(in alloc; "INSERT INTO t VALUES ({k}, {k})")?;
-        append_query(&mut frames, text.as_str())?;
-    }
+    append_query(&mut frames, insert(alloc)?.as_str())?;
     Ok(frames)
 }
 

@@ -102,7 +102,7 @@ fn do_one<J: Naming, B: Backend, S: Store + Drop, R: Wait + Clock>(
         );
     }
     if job.number == 1 && run.plan.plants {
-        return read_planted(rt, alloc, run.control, pass, draw, lines);
+        return read_planted(rt, alloc, run.control, pass, lines);
     }
     if draw.below(8) == 0 {
         return leave_one(rt, alloc, run, pass, draw, lines);
@@ -204,7 +204,7 @@ pub fn stress<S: Store + Drop + Send, R: Threads + Wait + Clock + Sync>(
 {
     let conf = conf_of(alloc, tried(plan.placed))?;
     let count = conf.placement.count();
-    let backends = tried_backends(alloc, count, plan.seed, plan.fails).ok()?;
+    let backends = tried_backends(alloc, count, plan).ok()?;
     let shared = started(alloc, conf, log, backends)?;
     run_all::<Brand, _, S, R>(rt, alloc, shared, Blank::new(1), plan, count)
 }

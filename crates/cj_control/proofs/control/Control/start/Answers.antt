@@ -6,7 +6,7 @@ use Rattle.cj_cluster.specs.History.Histories.{log}
 use Rattle.cj_place.specs.Layouts.{placement_of, Layout}
 use Rattle.cj_replica.specs.Seated.{SeatedCell}
 use Rattle.cj_state.specs.Seats.{AreCellsAt}
-use Rattle.cj_control.proofs.Starting.{started_fresh, started_placed, started_turns}
+use Rattle.cj_control.proofs.Starting.{started_fresh, started_noted, started_placed, started_turns}
 use Rattle.cj_control.proofs.control.Control.start.Goals as goal
 
 pub locked-requires-clause-at : goal.locked-requires-clause-at
@@ -26,3 +26,6 @@ new-book-requires-clause-fresh g c =
     let s = c.args.shared in
     subst (λ (t : Bool). IsFreshCache t (log s.book.state.history) s.book.state.cache) (sym c.requires.tells)
     (started_fresh g.B.Backend.tells g.S.Store.tells g.S.Store.faults (board_id s.board) (pass_board s.pass) s.book s.recovery_log s.cells.items s.accounts s.dumps c.requires.world)
+
+pub new-book-requires-clause-noted : goal.new-book-requires-clause-noted
+new-book-requires-clause-noted g c = let s = c.args.shared in started_noted g.B.Backend.tells g.S.Store.tells g.S.Store.faults (board_id s.board) (pass_board s.pass) s.book s.recovery_log s.cells.items s.accounts s.dumps c.requires.world
