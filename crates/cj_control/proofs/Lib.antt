@@ -1,5 +1,6 @@
 pub mod Administering
 pub mod Auditing
+pub mod Showing
 pub mod Callers
 pub mod Reading
 pub mod Starting

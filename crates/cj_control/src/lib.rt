@@ -14,6 +14,7 @@ mod audit;
 mod caller;
 mod control;
 mod read;
+mod show;
 mod start;
 mod write;
 
