@@ -61,16 +61,17 @@ impl<J: Naming, S: Store + Drop> LockedBook<J, S> {
         }
     }
 
-    /// Enables a backend that has taken the first `n` entries, while nobody has the turn. False if it is enabled
-    /// already, or if there are more entries by now.
+    /// Takes the turn back from who held it, and enables a backend that has taken the first `n` entries. False if it is
+    /// enabled already, or if there are more entries by now; neither comes if the turn was held since that was seen.
     pub fn enable(
         &mut self,
         board: &NamedBoard<J>,
         pass: &mut Pass<J>,
+        turn: Turn<J, S>,
         b: u8,
         n: u64,
     ) -> Result<bool, BookError>
-        requires vacant { is_none self.old.log ≡ false }
+        requires holds { HoldsTurn S.tells S.faults (front pass.old.seat) turn.share.amount turn.log }
         requires below { b < length J.layout.names }
         requires noted { Contains (pass_view pass.old.seat).position_notes (b, n) }
         ensures brings { BringsSince (front pass.old.seat) (front pass.new.seat) (Event.Enabled b) (λ h. not (is_enabled h b) && (length (log h) == n)) result }
@@ -79,7 +80,7 @@ impl<J: Naming, S: Store + Drop> LockedBook<J, S> {
         ensures told { front pass.new.seat ≡ self.new.book.state.history }
         ensures back { is_none self.new.log ≡ false }
     {
-        self.tell(board, pass);
+        self.give_back(board, pass, turn);
         let enabled = self.enable_now(board, b, n);
         self.tell(board, pass);
         enabled

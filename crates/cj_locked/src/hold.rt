@@ -70,4 +70,26 @@ impl<J: Naming, S: Store + Drop> LockedBook<J, S> {
         self.book.tell(&board.board, &mut pass.seat);
         self.turn = Some(turn);
     }
+
+    /// Shows the pass the history, and copies the entry behind the first `n`. None if the log has no more.
+    pub fn entry_after(
+        &mut self,
+        alloc: Global,
+        board: &NamedBoard<J>,
+        pass: &mut Pass<J>,
+        n: u64,
+    ) -> Result<Option<Entry>, NoMemory>
+        ensures copy { IfOk result (λ entry. entry ≡ slice_get (log (front pass.new.seat)) n) }
+        ensures more { HasNotedMore (pass_view pass.old.seat) (pass_view pass.new.seat) }
+        ensures legal { IsLegal (front pass.new.seat) }
+        ensures told { front pass.new.seat ≡ self.new.book.state.history }
+        ensures state { self.new.book.state ≡ self.old.book.state }
+        ensures log { self.new.log ≡ self.old.log }
+    {
+        self.tell(board, pass);
+        match self.book.entry(n + 1) {
+            Some(entry) => Ok(Some(entry.copy(alloc)?)),
+            None => Ok(None),
+        }
+    }
 }

@@ -209,6 +209,56 @@ impl<J: Naming, B: Backend> LockedCell<J, B> {
         (b, position)
     }
 
+    /// Looks where backend `b` stands, if this is its cell. The pass has heard of it then.
+    pub fn stand(&mut self, board: &NamedBoard<J>, pass: &mut Pass<J>, b: u8) -> Stand
+        ensures more { HasNotedMore (pass_view pass.old.seat) (pass_view pass.new.seat) }
+        ensures legal { IsLegal (front pass.new.seat) }
+        ensures stands { Stands b (pass_view pass.new.seat) result }
+        ensures within { (n : ℕ) → result ≡ Stand.At n → n ≤ length (log (front pass.new.seat)) }
+        ensures at { (n : ℕ) → result ≡ Stand.At n → self.old.cell.state.position ≡ Some n }
+        ensures out { (seen : SeenOut) → result ≡ Stand.Out seen → self.old.cell.state.position ≡ None }
+        ensures other { result ≡ Stand.Elsewhere → self.old.cell.state.b ≢ b }
+        ensures state { self.new.cell.state ≡ self.old.cell.state }
+    {
+        let (number, position) = self.look(board, pass);
+        if number != b {
+            return Stand::Elsewhere;
+        }
+        match position {
+            Some(n) => Stand::At(n),
+            None => Stand::Out(SeenOut { b }),
+        }
+    }
+
+    /// Has backend `b`, if this is its cell and it is out, hold its part of the database after the first `position`
+    /// entries of the log. False if it is not out. The pass has heard of it then.
+    ///
+    /// `Failed` counts a fault. After an error the backend is still out. A cell of another backend answers that it ran
+    /// out of memory, in a branch that never runs.
+    pub fn load(
+        &mut self,
+        board: &NamedBoard<J>,
+        pass: &mut Pass<J>,
+        b: u8,
+        db: Db,
+        position: u64,
+    ) -> Result<bool, CellError>
+        requires storable { IsStorable db }
+        requires within { position ≤ length (log (front pass.old.seat)) }
+        requires right { B.tells ≡ true → db ≡ part (placement_of J.layout) b (database_after (log (front pass.old.seat)) position) }
+        ensures more { HasNotedMore (pass_view pass.old.seat) (pass_view pass.new.seat) }
+        ensures legal { IsLegal (front pass.new.seat) }
+        ensures loaded { IsLoaded b position (pass_view pass.old.seat) (pass_view pass.new.seat) result }
+        ensures loads { self.old.cell.state.b ≡ b → self.old.cell.state.position ≡ None → (done : Result Unit CellError) × (result ≡ result_map (λ x. true) done) × LoadsDatabase B.tells self.old.cell.state db position done self.new.cell.state }
+        ensures stays { (self.old.cell.state.b ≡ b → self.old.cell.state.position ≢ None) → self.new.cell.state ≡ self.old.cell.state }
+    {
+        match self.stand(board, pass, b) {
+            Stand::Out(_) => self.load_out(board, pass, db, position),
+            Stand::At(_) => Ok(false),
+            Stand::Elsewhere => Err(CellError::Starved),
+        }
+    }
+
     /// Lends the backend.
     pub fn backend(&self) -> &B
         ensures told { B.told result.now ≡ self.now.cell.state.told }
