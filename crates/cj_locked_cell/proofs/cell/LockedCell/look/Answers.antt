@@ -4,6 +4,7 @@ use Rattle.cj_board.specs.declared.view.SeatView.{SeatView}
 use Rattle.cj_board.specs.Seats.{front, pass_view}
 use Rattle.cj_board.specs.Views.{pass_of}
 use Rattle.cj_locked_cell.proofs.Asking.{stands_noted}
+use Rattle.cj_locked_cell.proofs.Loading.{stands_within}
 use Rattle.cj_pass.proofs.Passes.{noted_joined}
 use Rattle.cj_locked_cell.proofs.cell.LockedCell.look.Goals as goal
 
@@ -16,3 +17,7 @@ returns-clause-noted g c =
 
 pub returns-clause-seen : goal.returns-clause-seen
 returns-clause-seen g c = subst (λ (v : SeatView). IsPrefix v.front (front c.report.new.pass)) (sym c.report.ensures.seat) c.report.ensures.seen
+
+pub returns-clause-within : goal.returns-clause-within
+returns-clause-within g c =
+    stands_within c.args.self.now.cell.state.position c.position-position.result c.args.self.now.cell.view.front (front c.report.new.pass) c.position-position.ensures c.report.ensures.seen c.legal.ensures.within
