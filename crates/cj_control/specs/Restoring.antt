@@ -1,7 +1,8 @@
 -- How a backend is dumped, loaded, brought to the log's end and enabled, from what a pass had seen to what it has seen
 -- then. F is the history that it had seen, G the one that it sees then.
 use Rattle.std.specs.Prelude.{◌≡◌, ◌⊎◌, ℕ, ◌<◌, ◌≤◌, Bool, true, false, List, [], ◌∷◌, ◌++◌, length, Contains, Result, Ok, Err}
-use Rattle.std.specs.declared.option.Option.TheVariants.{Some}
+use Rattle.std.specs.declared.option.Option.{Option}
+use Rattle.std.specs.declared.option.Option.TheVariants.{None, Some}
 use mathlib.Core.List.{IsPrefix}
 use Rattle.cj_model.specs.Cluster.Placements.{part}
 use Rattle.cj_model.specs.Database.Storable.{IsStorable}
@@ -14,6 +15,8 @@ use Rattle.cj_dump.specs.declared.dump.Dump.{Dump}
 use Rattle.cj_dump.specs.Coverage.{HasCoveredTables, lacks}
 use Rattle.cj_locked_cell.specs.Asking.{NotesFault}
 use Rattle.cj_locked.specs.Dumping.{CanSpare, IsLastHostOf}
+use Rattle.cj_locked.specs.declared.dump.DumpRefusal.{DumpRefusal}
+use Rattle.cj_locked.specs.declared.dump.DumpRefusal.TheVariants as refusals
 use Rattle.cj_control.specs.declared.restore.RestoreError.{RestoreError}
 use Rattle.cj_control.specs.declared.restore.RestoreError.TheVariants as errors
 
@@ -42,6 +45,21 @@ pub record MarksDump (l : Layout) (F G : List Event) (name : List ℕ) (b : ℕ)
   pub fresh : has_marker m name ≡ false
   pub spare : CanSpare l m b
   pub seen : IsPrefix (m ++ Marker name (Some b) ∷ Disabled b ∷ []) G
+
+-- what is read where no dump was begun
+abbrev pub refusal_of : DumpRefusal → RestoreError
+refusal_of refusals.NotEnabled = errors.NotEnabled
+refusal_of refusals.NameTaken = errors.NameTaken
+refusal_of (refusals.LastHost table) = errors.LastHost table
+refusal_of (refusals.HistoryFull n) = errors.HistoryFull n
+refusal_of refusals.NoMemory = errors.NoMemory
+
+-- what backend b held at position n was read as a dump of it, or why not
+abbrev pub ReadsDump : Bool → Layout → List ℕ → ℕ → ℕ → SeatView → SeatView → Result Dump RestoreError → Type 0
+ReadsDump tells l name b n old new (Ok d) = (m : List Event) → IsPrefix m new.front → n ≡ length (log m) → IsDumpOf tells l m name b d
+ReadsDump tells l name b n old new (Err (errors.Fault k)) = (k ≡ b) × NotesFault b old new
+ReadsDump tells l name b n old new (Err errors.NoMemory) = Unit {0}
+ReadsDump tells l name b n old new (Err _) = ⊥
 
 -- the dump was taken, or why it was not; the first reason that holds is given. After a fault of the backend, and after
 -- want of memory where the marker came, it is disabled.
@@ -78,6 +96,24 @@ Loads l b d old new (Err errors.NoMemory) = Unit {0}
 Loads l b d old new (Err _) = ⊥
 
 -- ---- a replay
+
+-- backend b, which had taken n entries, has taken more; or it has taken the first `until`; or why not
+abbrev pub TakesNext : ℕ → ℕ → ℕ → SeatView → SeatView → Result (Option ℕ) RestoreError → Type 0
+TakesNext b n until old new (Ok (Some k)) = (n < k) × (k ≤ length (log new.front)) × Contains new.position_notes (b, k)
+TakesNext b n until old new (Ok None) = until ≤ n
+TakesNext b n until old new (Err (errors.Fault k)) = (k ≡ b) × NotesFault b old new
+TakesNext b n until old new (Err errors.Starved) = Unit {0}
+TakesNext b n until old new (Err errors.NoMemory) = Unit {0}
+TakesNext b n until old new (Err _) = ⊥
+
+-- backend b has taken n entries: `most` more, or the first `until`; or why not
+abbrev pub ReplaysTo : ℕ → ℕ → ℕ → SeatView → SeatView → Result ℕ RestoreError → Type 0
+ReplaysTo b most until old new (Ok n) = ((most ≤ n) ⊎ (until ≤ n)) × (n ≤ length (log new.front)) × Contains new.position_notes (b, n)
+ReplaysTo b most until old new (Err (errors.Out seen)) = seen.b ≡ b
+ReplaysTo b most until old new (Err (errors.Fault k)) = (k ≡ b) × NotesFault b old new
+ReplaysTo b most until old new (Err errors.Starved) = Unit {0}
+ReplaysTo b most until old new (Err errors.NoMemory) = Unit {0}
+ReplaysTo b most until old new (Err _) = ⊥
 
 -- backend b has taken n entries: `most` more, or as many as the log had; or why not
 abbrev pub Replays : ℕ → ℕ → SeatView → SeatView → Result ℕ RestoreError → Type 0

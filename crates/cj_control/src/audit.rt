@@ -29,7 +29,7 @@ use std::sync::Wait;
 
 impl<J: Naming, B: Backend, S: Store + Drop> Control<J, B, S> {
     /// Waits for the turn, and takes it.
-    fn hold<R: Wait>(&self, rt: &R, pass: &mut Pass<J>) -> HeldTurn<J, S>
+    pub(crate) fn hold<R: Wait>(&self, rt: &R, pass: &mut Pass<J>) -> HeldTurn<J, S>
         ensures holds { HoldsTurn S.tells S.faults (front pass.new.seat) result.turn.share.amount result.turn.log }
         ensures length { result.length ≡ length (log (front pass.new.seat)) }
         ensures enabled { (b : ℕ) → in_mask result.enabled b ≡ is_enabled (front pass.new.seat) b }
@@ -47,7 +47,7 @@ impl<J: Naming, B: Backend, S: Store + Drop> Control<J, B, S> {
     }
 
     /// Gives the turn back, and wakes those who wait for it.
-    fn give_back<R: Wait>(&self, rt: &R, pass: &mut Pass<J>, turn: Turn<J, S>)
+    pub(crate) fn give_back<R: Wait>(&self, rt: &R, pass: &mut Pass<J>, turn: Turn<J, S>)
         requires holds { HoldsTurn S.tells S.faults (front pass.old.seat) turn.share.amount turn.log }
         ensures held { IsHeldOver (front pass.old.seat) (front pass.new.seat) }
         ensures since { (m H : List Event) → turn.share.amount ≡ turn_amount m None → is_free m ≡ true → IsPrefix m H → IsPrefix H (front pass.old.seat) → IsHeldOver H (front pass.new.seat) }
@@ -63,20 +63,21 @@ impl<J: Naming, B: Backend, S: Store + Drop> Control<J, B, S> {
     }
 
     /// Asks backend `b` for all that it holds, if it stands at position `n`.
-    fn contents_at<R: Wait>(
+    pub(crate) fn contents_at<R: Wait>(
         &self,
         rt: &R,
         pass: &mut Pass<J>,
         b: u8,
         n: u64,
     ) -> Result<Db, CellError>
+        requires below { b < length J.layout.names }
         ensures more { HasNotedMore (pass_view pass.old.seat) (pass_view pass.new.seat) }
+        ensures legal { IsLegal (front pass.new.seat) }
         ensures gives { GivesPart B.tells (placement_of J.layout) b n (pass_view pass.old.seat) (pass_view pass.new.seat) result }
     {
-        let Some(cell) = self.locks.cells.get(b as usize) else {
-            return Err(CellError::Starved);
-        };
-        cell.lock(rt).contents(&self.locks.board, pass, b, n)
+        self.locks.cells[b as usize]
+            .lock(rt)
+            .contents(&self.locks.board, pass, b, n)
     }
 
     /// Appends the lines of one backend. It is asked for its contents if it is in the mask, and else has no lines. No

@@ -13,9 +13,13 @@ mod administration;
 mod audit;
 mod caller;
 mod control;
+mod dump;
+mod replay;
+mod restore;
 mod start;
 
 pub use administration::AdminError;
 pub use caller::{Caller, CallerError};
 pub use cj_pass::{Naming, Pass};
 pub use control::Control;
+pub use restore::RestoreError;

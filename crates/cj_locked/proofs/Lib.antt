@@ -1,5 +1,6 @@
 pub mod Beginning
 pub mod Changing
+pub mod Dumping
 pub mod Ending
 pub mod Failing
 pub mod Finishing

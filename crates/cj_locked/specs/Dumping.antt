@@ -1,8 +1,7 @@
 -- How a backend's dump is begun: a marker names it, and the backend is disabled, from what a pass had seen to what it
 -- has seen then.
-use Rattle.std.specs.Prelude.{◌≡◌, ℕ, ◌<◌, Bool, true, false, List, ◌∷◌, [], ◌++◌, length, Result, Ok, Err}
+use Rattle.std.specs.Prelude.{◌≡◌, ℕ, ◌<◌, ◌≤◌, Bool, true, false, List, ◌∷◌, [], ◌++◌, length, Result, Ok, Err}
 use Rattle.std.specs.declared.option.Option.TheVariants.{None, Some}
-use mathlib.Core.List.{IsPrefix}
 use Rattle.cj_model.specs.Cluster.Masks.{in_mask}
 use Rattle.cj_cluster.specs.declared.event.Event.{Event}
 use Rattle.cj_cluster.specs.declared.event.Event.TheVariants.{Disabled, LogFailed, Marker}
@@ -10,6 +9,7 @@ use Rattle.cj_cluster.specs.History.Histories.{events_left, has_marker, is_enabl
 use Rattle.cj_place.specs.Layouts.{last_host, Layout}
 use Rattle.cj_book.specs.declared.error.BookError.{BookError}
 use Rattle.cj_book.specs.declared.error.BookError.TheVariants.{InProgress, NoBackend, HistoryFull, LogFault, NoMemory}
+use Rattle.cj_locked.specs.Auditing.{IsHeldOver}
 use Rattle.cj_locked.specs.declared.dump.DumpRefusal.{DumpRefusal}
 use Rattle.cj_locked.specs.declared.dump.DumpRefusal.TheVariants as refusal
 
@@ -26,6 +26,12 @@ pub record IsLastHostOf (l : Layout) (m : List Event) (b : ℕ) (table : List �
   pub mask : ℕ
   pub is : (c : ℕ) → in_mask mask c ≡ is_enabled m c
   pub last : last_host l b mask ≡ Some table
+
+-- a dump of backend b may be begun at history m: there is room for the marker and the event that disables b
+pub record CanDump (l : Layout) (m : List Event) (b : ℕ) (name : List ℕ) : Type 0 where
+  pub spare : CanSpare l m b
+  pub fresh : has_marker m name ≡ false
+  pub room : 2 ≤ events_left m
 
 -- why no dump of backend b was begun at history m; the first reason that holds is given
 abbrev pub RefusesDump : Layout → List Event → ℕ → List ℕ → DumpRefusal → Type 0
@@ -45,8 +51,8 @@ DumpsAt m name b (Err (HistoryFull n)) G = (G ≡ m ++ Marker name (Some b) ∷ 
 DumpsAt m name b (Err LogFault) G = G ≡ m ++ LogFailed 0 0 ∷ []
 DumpsAt m name b (Err NoMemory) G = G ≡ m
 
--- it came now, since the pass had seen F
+-- it came now; since the pass had seen F, no entry came, and none of the backends was enabled or disabled
 pub record DumpsSince (F G : List Event) (name : List ℕ) (b : ℕ) (result : Result ℕ BookError) : Type 0 where
   pub m : List Event
-  pub longer : IsPrefix F m
+  pub over : IsHeldOver F m
   pub at : DumpsAt m name b result G

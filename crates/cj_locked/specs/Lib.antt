@@ -1,5 +1,6 @@
 pub mod Auditing
 pub mod Changes
+pub mod Dumping
 pub mod Failures
 pub mod Locked
 pub mod Looking

@@ -5,10 +5,12 @@ ghost use Rattle.cj_cluster.specs.declared.event.Event.{Event};
 ghost use Rattle.cj_cluster.specs.History.Histories.{is_enabled, log};
 ghost use Rattle.cj_cluster.specs.History.Legality.{IsLegal};
 ghost use Rattle.cj_board.specs.Seats.{front, pass_view};
+ghost use Rattle.cj_locked.specs.Auditing.{HoldsTurn};
 ghost use Rattle.cj_locked.specs.Changes.{BringsAt, BringsSince};
 ghost use Rattle.cj_pass.specs.Passes.{HasNotedMore};
 
 use crate::book::LockedBook;
+use crate::turn::Turn;
 use cj_book::BookError;
 use cj_outside::Store;
 use cj_pass::{NamedBoard, Naming, Pass};
@@ -36,7 +38,7 @@ impl<J: Naming, S: Store + Drop> LockedBook<J, S> {
     }
 
     /// The same, of which no pass hears.
-    fn disable_now(&mut self, board: &NamedBoard<J>, b: u8) -> Result<bool, BookError>
+    pub(crate) fn disable_now(&mut self, board: &NamedBoard<J>, b: u8) -> Result<bool, BookError>
         requires vacant { is_none self.old.log ≡ false }
         requires below { b < length J.layout.names }
         ensures brings { BringsAt self.old.book.state.history (Event.Disabled b) (is_enabled self.old.book.state.history b) result self.new.book.state.history }

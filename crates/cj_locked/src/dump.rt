@@ -1,5 +1,18 @@
 //! How a dump of a backend is begun: its marker, and the backend disabled behind it, while the turn is held.
 
+ghost use Rattle.std.specs.Prelude.{◌≡◌, ◌≢◌, ◌<◌, ℕ, List, [], true, false, length, IfOk, IfErr, OnOk, OnErr, Some, is_none};
+ghost use mathlib.Core.List.{IsPrefix};
+ghost use Rattle.cj_cluster.specs.declared.event.Event.{Event};
+ghost use Rattle.cj_cluster.specs.History.Histories.{has_marker, is_enabled, is_free};
+ghost use Rattle.cj_cluster.specs.History.Legality.{IsLegal};
+ghost use Rattle.cj_board.specs.Seats.{front, pass_view};
+ghost use Rattle.cj_book.specs.declared.pending.Pending.TheVariants as pending;
+ghost use Rattle.cj_locked.specs.Auditing.{IsHeldOver};
+ghost use Rattle.cj_locked.specs.Dumping.{CanDump, CanSpare, DumpsAt, DumpsSince, RefusesDump};
+ghost use Rattle.cj_locked.specs.Marking.{BeginsMarkSince, HoldsMarked};
+ghost use Rattle.cj_locked.specs.Turns.{turn_amount};
+ghost use Rattle.cj_pass.specs.Passes.{HasNotedMore};
+
 use crate::book::LockedBook;
 use crate::mark::BegunMarker;
 use crate::turn::Turn;
@@ -43,16 +56,45 @@ impl<J: Naming, S: Store + Drop> LockedBook<J, S> {
         ensures back { OnErr result (is_none self.new.log ≡ false) }
     {
         self.tell(board, pass);
-        // enabled, taken, last_host, room, begin_fresh
+        self.check_dump(name, b)?;
+        match self.begin_fresh(name, Some(b)) {
+            Ok(begun) => Ok(begun),
+            Err(_) => Err(DumpRefusal::NoMemory),
+        }
+    }
+
+    /// Refuses a dump that may not be begun.
+    fn check_dump(&self, name: &Name, b: u8) -> Result<(), DumpRefusal>
+        requires below { b < length J.layout.names }
+        ensures ok { OnOk result (CanDump J.layout self.now.book.state.history b name.now) }
+        ensures err { IfErr result (RefusesDump J.layout self.now.book.state.history b name.now) }
+    {
+        if !self.book.is_enabled(b) {
+            return Err(DumpRefusal::NotEnabled);
+        }
+        if self.book.is_taken(name) {
+            return Err(DumpRefusal::NameTaken);
+        }
+        let enabled = self.book.enabled();
+        if let Some(table) = self.book.placement().last_host(b, enabled) {
+            return Err(DumpRefusal::LastHost(table.copy()));
+        }
+        if self.book.room() < 2 {
+            return Err(DumpRefusal::HistoryFull(self.book.events()));
+        }
+        Ok(())
     }
 
     /// Finishes what `begin_dump` began, once the log was asked to append the item, and disables the backend in the
     /// same hold. Returns how many entries stand before the marker. The turn is there again.
+    ///
+    /// `HistoryFull`: failures in queries took the room of the second event. Then the marker stands, and the backend is
+    /// enabled.
     pub fn finish_dump(
         &mut self,
         board: &NamedBoard<J>,
         pass: &mut Pass<J>,
-        turn: Turn<J, S>,
+        mut turn: Turn<J, S>,
         name: &Name,
         b: u8,
         appended: Result<(), LogError>,
@@ -67,6 +109,38 @@ impl<J: Naming, S: Store + Drop> LockedBook<J, S> {
         ensures back { is_none self.new.log ≡ false }
     {
         self.tell(board, pass);
-        // mark_now, disable_now, tell
+        self.check_marker(&mut turn);
+        let dumped = self.dump_now(board, turn, name, b, appended);
+        self.tell(board, pass);
+        dumped
+    }
+
+    /// Shows that only failures in queries came since a marker was begun whose turn this is.
+    fn check_marker(&mut self, turn: &mut Turn<J, S>)
+        ensures over { (m F : List Event) → turn.old.share.amount ≡ turn_amount m (Some pending.Marker) → is_free m ≡ true → IsPrefix m F → IsPrefix F self.old.book.state.history → IsHeldOver F self.old.book.state.history }
+        ensures turn { (turn.new.share.amount ≡ turn.old.share.amount) × (turn.new.log ≡ turn.old.log) }
+        ensures same { self.new ≡ self.old }
+    {
+        turn.audit(&mut self.ledger);
+    }
+
+    /// Finishes the dump's marker and disables the backend. No pass hears of it.
+    fn dump_now(
+        &mut self,
+        board: &NamedBoard<J>,
+        turn: Turn<J, S>,
+        name: &Name,
+        b: u8,
+        appended: Result<(), LogError>,
+    ) -> Result<u64, BookError>
+        requires below { b < length J.layout.names }
+        requires enabled { is_enabled self.old.book.state.history b ≡ true }
+        requires holds { HoldsMarked S.tells S.faults self.old.book.state.history name.now (Some b) turn.share.amount turn.log appended }
+        ensures dumps { DumpsAt self.old.book.state.history name.now b result self.new.book.state.history }
+        ensures back { is_none self.new.log ≡ false }
+    {
+        let number = self.mark_now(board, turn, name, Some(b), appended)?;
+        self.disable_now(board, b)?;
+        Ok(number)
     }
 }

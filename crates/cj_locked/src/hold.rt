@@ -1,6 +1,6 @@
 //! The turn, held by who brings no event.
 
-ghost use Rattle.std.specs.Prelude.{◌≡◌, ℕ, List, None, true, false, length, is_none};
+ghost use Rattle.std.specs.Prelude.{◌≡◌, ℕ, List, None, true, false, length, slice_get, Contains, IfOk, is_none};
 ghost use mathlib.Core.List.{IsPrefix};
 ghost use Rattle.cj_model.specs.Cluster.Masks.{in_mask};
 ghost use Rattle.cj_cluster.specs.declared.event.Event.{Event};
@@ -13,8 +13,10 @@ ghost use Rattle.cj_locked.specs.Turns.{turn_amount};
 
 use crate::book::LockedBook;
 use crate::turn::Turn;
+use cj_model::{Duplicate, Entry, NoMemory};
 use cj_outside::Store;
 use cj_pass::{NamedBoard, Naming, Pass};
+use std::alloc::Global;
 
 /// The turn, and what stays while it is held: no entry is open.
 #[derive(Drop)]
@@ -59,6 +61,7 @@ impl<J: Naming, S: Store + Drop> LockedBook<J, S> {
         requires holds { HoldsTurn S.tells S.faults (front pass.old.seat) turn.share.amount turn.log }
         ensures held { IsHeldOver (front pass.old.seat) (front pass.new.seat) }
         ensures since { (m H : List Event) → turn.share.amount ≡ turn_amount m None → is_free m ≡ true → IsPrefix m H → IsPrefix H (front pass.old.seat) → IsHeldOver H (front pass.new.seat) }
+        ensures heard { (note : ℕ × ℕ) → Contains (pass_view pass.old.seat).position_notes note → Contains self.new.book.view.position_notes note }
         ensures more { HasNotedMore (pass_view pass.old.seat) (pass_view pass.new.seat) }
         ensures legal { IsLegal (front pass.new.seat) }
         ensures told { front pass.new.seat ≡ self.new.book.state.history }
@@ -69,6 +72,32 @@ impl<J: Naming, S: Store + Drop> LockedBook<J, S> {
         self.book.legal();
         self.book.tell(&board.board, &mut pass.seat);
         self.turn = Some(turn);
+    }
+
+    /// Shows the pass the whole history, and returns the mask of the backends that are enabled in it.
+    pub fn enabled(&mut self, board: &NamedBoard<J>, pass: &mut Pass<J>) -> u32
+        ensures enabled { (b : ℕ) → in_mask result b ≡ is_enabled (front pass.new.seat) b }
+        ensures more { HasNotedMore (pass_view pass.old.seat) (pass_view pass.new.seat) }
+        ensures legal { IsLegal (front pass.new.seat) }
+        ensures told { front pass.new.seat ≡ self.new.book.state.history }
+        ensures state { self.new.book.state ≡ self.old.book.state }
+        ensures log { self.new.log ≡ self.old.log }
+    {
+        self.tell(board, pass);
+        self.book.enabled()
+    }
+
+    /// Shows the pass the history, and returns how many entries its log has.
+    pub fn length(&mut self, board: &NamedBoard<J>, pass: &mut Pass<J>) -> u64
+        ensures length { result ≡ length (log (front pass.new.seat)) }
+        ensures more { HasNotedMore (pass_view pass.old.seat) (pass_view pass.new.seat) }
+        ensures legal { IsLegal (front pass.new.seat) }
+        ensures told { front pass.new.seat ≡ self.new.book.state.history }
+        ensures state { self.new.book.state ≡ self.old.book.state }
+        ensures log { self.new.log ≡ self.old.log }
+    {
+        self.tell(board, pass);
+        self.book.length()
     }
 
     /// Shows the pass the history, and copies the entry behind the first `n`. None if the log has no more.
@@ -87,6 +116,9 @@ impl<J: Naming, S: Store + Drop> LockedBook<J, S> {
         ensures log { self.new.log ≡ self.old.log }
     {
         self.tell(board, pass);
+        if n >= self.book.length() {
+            return Ok(None);
+        }
         match self.book.entry(n + 1) {
             Some(entry) => Ok(Some(entry.copy(alloc)?)),
             None => Ok(None),

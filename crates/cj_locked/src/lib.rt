@@ -12,6 +12,7 @@
 
 mod book;
 mod change;
+mod dump;
 mod failure;
 mod hold;
 mod look;
@@ -21,6 +22,7 @@ mod session;
 mod turn;
 
 pub use book::{Begun, LockedBook, OpenEntry};
+pub use dump::DumpRefusal;
 pub use failure::ReadFailure;
 pub use hold::HeldTurn;
 pub use look::Look;

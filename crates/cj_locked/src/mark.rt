@@ -53,7 +53,11 @@ impl<J: Naming, S: Store + Drop> LockedBook<J, S> {
     }
 
     /// The same, of a name that no marker has.
-    fn begin_fresh(&mut self, name: &Name, b: Option<u8>) -> Result<BegunMarker<J, S>, BookError>
+    pub(crate) fn begin_fresh(
+        &mut self,
+        name: &Name,
+        b: Option<u8>,
+    ) -> Result<BegunMarker<J, S>, BookError>
         requires vacant { is_none self.old.log ≡ false }
         requires fresh { has_marker self.old.book.state.history name.now ≡ false }
         requires named { name.now ≢ [] }
@@ -104,7 +108,7 @@ impl<J: Naming, S: Store + Drop> LockedBook<J, S> {
     }
 
     /// The same, of which no pass hears.
-    fn mark_now(
+    pub(crate) fn mark_now(
         &mut self,
         board: &NamedBoard<J>,
         mut turn: Turn<J, S>,
