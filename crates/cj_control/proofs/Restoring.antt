@@ -1,8 +1,10 @@
 -- How a backend comes back: what its dump, its load, the replay and the enabling come to.
-use Rattle.std.proofs.Common.{◌≡◌, ◌⊎◌, inl, inr, ⊎_elim, ℕ, ◌<◌, ◌≤◌, ◌==◌, ◌&&◌, not, Bool, true, false, List, [], ◌∷◌, ◌++◌, length, Contains, Option, None, Some, Result, Ok, Err, ap, sym, ◌∙◌, subst, arith, eqb-true}
+use Rattle.std.proofs.Common.{◌≡◌, ◌⊎◌, inl, inr, ⊎_elim, ℕ, ◌+◌, ◌<◌, ◌≤◌, ◌==◌, ◌&&◌, not, Bool, true, false, List, [], ◌∷◌, ◌++◌, length, Contains, Option, slice_get, None, Some, Result, Ok, Err, ap, sym, ◌∙◌, subst, arith, eqb-true}
 use Rattle.std.proofs.lemmas.Bool.{and_parts, not-true}
+use Rattle.std.proofs.lemmas.Option.{slice_get_within}
 use mathlib.Core.List.{IsPrefix}
 use Rattle.cj_model.specs.declared.database.Slot.{Slot}
+use Rattle.cj_model.specs.declared.request.Entry.{Entry}
 use Rattle.cj_model.specs.Cluster.Masks.{in_mask}
 use Rattle.cj_model.specs.Cluster.Placements.{part}
 use Rattle.cj_model.specs.Database.Storable.{IsStorable}
@@ -28,7 +30,7 @@ use Rattle.cj_locked.specs.Changes.{BringsSince}
 use Rattle.cj_locked.specs.Dumping.{CanSpare, DumpsSince, RefusesDump}
 use Rattle.cj_locked.specs.declared.dump.DumpRefusal.{DumpRefusal}
 use Rattle.cj_locked.specs.declared.dump.DumpRefusal.TheVariants as refusals
-use Rattle.cj_control.specs.Restoring.{refusal_of, Dumps, Enables, IsRightDump, MarksDump, ReadsDump, Replays, ReplaysTo}
+use Rattle.cj_control.specs.Restoring.{refusal_of, Dumps, Enables, IsRightDump, MarksDump, ReadsDump, Replays, ReplaysTo, TakesNext}
 use Rattle.cj_control.specs.declared.restore.RestoreError.{RestoreError}
 use Rattle.cj_control.specs.declared.restore.RestoreError.TheVariants as errors
 
@@ -125,7 +127,51 @@ cut_storable l b d is = part_is_storable (placement_of l) b d.db is
 
 -- ---- a replay
 
+-- the backend took entry n + 1, which the pass had seen
+pub took_next : (b n until : ℕ) (e : Entry) (u v : SeatView) → slice_get (log u.front) n ≡ Some e → HasNotedMore u v → Contains v.position_notes (b, n + 1) → TakesNext b n until u v (Ok (Some (n + 1)))
+took_next b n until e u v there more noted =
+    let inside : n < length (log u.front) = slice_get_within (log u.front) n e there in
+    let now : n + 1 ≤ length (log v.front) = within_later u.front v.front more.seen.front (n + 1) (omega (arith, inside)) in
+    (omega arith, now, noted)
+
 module _ (b : ℕ) where
+  -- one entry was not taken
+  pub not_taken : (most until n : ℕ) (u v w : SeatView) → HasNotedMore u v → (error : RestoreError) → TakesNext b n until v w (Err error) → ReplaysTo b most until u w (Err error)
+  not_taken most until n u v w more (errors.Fault k) is = (is.0, fault_between b u v w w more (noted_self w) is.1)
+  not_taken most until n u v w more errors.Starved is = tt
+  not_taken most until n u v w more errors.NoMemory is = tt
+  not_taken most until n u v w more (errors.Out seen) is = absurd is
+  not_taken most until n u v w more errors.NotEnabled is = absurd is
+  not_taken most until n u v w more errors.AlreadyEnabled is = absurd is
+  not_taken most until n u v w more errors.NameTaken is = absurd is
+  not_taken most until n u v w more (errors.LastHost table) is = absurd is
+  not_taken most until n u v w more (errors.HistoryFull k) is = absurd is
+  not_taken most until n u v w more errors.LogFault is = absurd is
+  not_taken most until n u v w more errors.NotOut is = absurd is
+  not_taken most until n u v w more (errors.DumpLacks table) is = absurd is
+  not_taken most until n u v w more (errors.DumpAhead k) is = absurd is
+
+  -- the backend took the next entry, or not, and a pass had seen less before
+  pub takes_earlier : (n until : ℕ) (u v w : SeatView) → HasNotedMore u v → (r : Result (Option ℕ) RestoreError) → TakesNext b n until v w r → TakesNext b n until u w r
+  takes_earlier n until u v w more r takes = by r takes
+    where
+      by : (q : Result (Option ℕ) RestoreError) → TakesNext b n until v w q → TakesNext b n until u w q
+      by (Ok (Some k)) is = is
+      by (Ok None) is = is
+      by (Err (errors.Fault k)) is = (is.0, fault_between b u v w w more (noted_self w) is.1)
+      by (Err errors.Starved) is = tt
+      by (Err errors.NoMemory) is = tt
+      by (Err (errors.Out seen)) is = absurd is
+      by (Err errors.NotEnabled) is = absurd is
+      by (Err errors.AlreadyEnabled) is = absurd is
+      by (Err errors.NameTaken) is = absurd is
+      by (Err (errors.LastHost table)) is = absurd is
+      by (Err (errors.HistoryFull k)) is = absurd is
+      by (Err errors.LogFault) is = absurd is
+      by (Err errors.NotOut) is = absurd is
+      by (Err (errors.DumpLacks table)) is = absurd is
+      by (Err (errors.DumpAhead k)) is = absurd is
+
   -- a pass had seen less before, where the log was no longer
   pub replays_earlier : (most until : ℕ) (u v w : SeatView) → HasNotedMore u v → length (log u.front) ≤ until → (r : Result ℕ RestoreError) → ReplaysTo b most until v w r → Replays b most u w r
   replays_earlier most until u v w more within r replays = by r replays

@@ -80,14 +80,11 @@ impl<J: Naming, B: Backend, S: Store + Drop> Control<J, B, S> {
         ensures more { HasNotedMore (pass_view pass.old.seat) (pass_view pass.new.seat) }
         ensures legal { IsLegal (front pass.new.seat) }
     {
-        let dumped = self.locks.book.lock(rt).finish_dump(
-            &self.locks.board,
-            pass,
-            turn,
-            name,
-            b,
-            appended,
-        );
+        let dumped = self
+            .locks
+            .book
+            .lock(rt)
+            .finish_dump(&self.locks.board, pass, turn, name, b, appended);
         self.locks.turn_back.notify_one();
         self.locks.settled.notify_all();
         dumped

@@ -53,10 +53,9 @@ impl<J: Naming, B: Backend, S: Store + Drop> Control<J, B, S> {
         ensures legal { IsLegal (front pass.new.seat) }
     {
         let login = self.locks.accounts.mapped(&e.user, b);
-        let (number, did) =
-            self.locks.cells[b as usize]
-                .lock(rt)
-                .take(&self.locks.board, pass, n, e, login);
+        let (number, did) = self.locks.cells[b as usize]
+            .lock(rt)
+            .take(&self.locks.board, pass, n, e, login);
         if number == b { did } else { Did::Starved }
     }
 

@@ -69,7 +69,7 @@ impl<J: Naming, B: Backend, S: Store + Drop> Control<J, B, S> {
         ensures more { HasNotedMore (pass_view pass.old.seat) (pass_view pass.new.seat) }
         ensures legal { IsLegal (front pass.new.seat) }
     {
-        self.locks.book.lock(rt).length(&self.locks.board, pass)
+        self.locks.book.lock(rt).log_length(&self.locks.board, pass)
     }
 
     /// Returns the mask of the enabled backends.

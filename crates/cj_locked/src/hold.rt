@@ -88,7 +88,7 @@ impl<J: Naming, S: Store + Drop> LockedBook<J, S> {
     }
 
     /// Shows the pass the history, and returns how many entries its log has.
-    pub fn length(&mut self, board: &NamedBoard<J>, pass: &mut Pass<J>) -> u64
+    pub fn log_length(&mut self, board: &NamedBoard<J>, pass: &mut Pass<J>) -> u64
         ensures length { result ≡ length (log (front pass.new.seat)) }
         ensures more { HasNotedMore (pass_view pass.old.seat) (pass_view pass.new.seat) }
         ensures legal { IsLegal (front pass.new.seat) }
