@@ -12,12 +12,11 @@ ghost use Rattle.cj_pass.specs.Passes.{HasNotedMore};
 ghost use Rattle.cj_locked.specs.Turns.{turn_amount};
 
 use crate::book::LockedBook;
-use crate::turn::Turn;
+use crate::turn::{Turn, taken};
 use cj_outside::Store;
 use cj_pass::{NamedBoard, Naming, Pass};
 
 /// The turn, and what stays while it is held: no entry is open.
-#[derive(Drop)]
 pub struct HeldTurn<J: Naming, S: Store> {
     /// The number of entries in the log.
     pub length: u64,
@@ -42,9 +41,7 @@ impl<J: Naming, S: Store + Drop> LockedBook<J, S> {
         self.book.tell(&board.board, &mut pass.seat);
         let length = self.book.length();
         let enabled = self.book.enabled();
-        let Some(mut turn) = self.turn.take() else {
-            unreachable!()
-        };
+        let mut turn = taken(&mut self.turn);
         turn.audit(&mut self.ledger);
         HeldTurn {
             length,
@@ -68,6 +65,6 @@ impl<J: Naming, S: Store + Drop> LockedBook<J, S> {
         turn.audit(&mut self.ledger);
         self.book.legal();
         self.book.tell(&board.board, &mut pass.seat);
-        self.turn = Some(turn);
+        self.turn = Some(turn.keep());
     }
 }
