@@ -1,4 +1,4 @@
-//! The turn, held by who brings no event.
+//! The turn, held by who brings no event, and a look at which backends are enabled.
 
 ghost use Rattle.std.specs.Prelude.{◌≡◌, ℕ, List, None, true, false, length, is_none};
 ghost use mathlib.Core.List.{IsPrefix};
@@ -66,5 +66,19 @@ impl<J: Naming, S: Store + Drop> LockedBook<J, S> {
         self.book.legal();
         self.book.tell(&board.board, &mut pass.seat);
         self.turn = Some(turn.keep());
+    }
+
+    /// Shows the pass the whole history, and returns the mask of the backends that are enabled in it.
+    pub fn enabled(&mut self, board: &NamedBoard<J>, pass: &mut Pass<J>) -> u32
+        ensures enabled { (b : ℕ) → in_mask result b ≡ is_enabled (front pass.new.seat) b }
+        ensures more { HasNotedMore (pass_view pass.old.seat) (pass_view pass.new.seat) }
+        ensures legal { IsLegal (front pass.new.seat) }
+        ensures told { front pass.new.seat ≡ self.new.book.state.history }
+        ensures state { self.new.book.state ≡ self.old.book.state }
+        ensures log { self.new.log ≡ self.old.log }
+        ensures pending { self.new.book.pending ≡ self.old.book.pending }
+    {
+        self.tell(board, pass);
+        self.book.enabled()
     }
 }
