@@ -2,6 +2,7 @@
 
 ghost use Rattle.std.specs.Prelude.{◌≡◌, ◌≢◌, ◌<◌, ℕ, List, [], true, false, length, IfOk, IfErr, OnOk, OnErr, Some, is_none};
 ghost use mathlib.Core.List.{IsPrefix};
+ghost use Rattle.cj_model.specs.declared.limits.TheConstants.{BACKEND_LIMIT};
 ghost use Rattle.cj_cluster.specs.declared.event.Event.{Event};
 ghost use Rattle.cj_cluster.specs.History.Histories.{has_marker, is_enabled, is_free};
 ghost use Rattle.cj_cluster.specs.History.Legality.{IsLegal};
@@ -68,7 +69,10 @@ impl<J: Naming, S: Store + Drop> LockedBook<J, S> {
         requires below { b < length J.layout.names }
         ensures ok { OnOk result (CanDump J.layout self.now.book.state.history b name.now) }
         ensures err { IfErr result (RefusesDump J.layout self.now.book.state.history b name.now) }
+        ensures few { b < BACKEND_LIMIT }
     {
+        // There are not too many backends, so the marker can name this one.
+        let _ = self.book.placement().count();
         if !self.book.is_enabled(b) {
             return Err(DumpRefusal::NotEnabled);
         }
