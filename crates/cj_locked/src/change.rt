@@ -9,6 +9,7 @@ ghost use Rattle.cj_locked.specs.Changes.{BringsAt, BringsSince};
 ghost use Rattle.cj_pass.specs.Passes.{HasNotedMore};
 
 use crate::book::LockedBook;
+use crate::turn::taken;
 use cj_book::BookError;
 use cj_outside::Store;
 use cj_pass::{NamedBoard, Naming, Pass};
@@ -45,17 +46,15 @@ impl<J: Naming, S: Store + Drop> LockedBook<J, S> {
         if !self.book.is_enabled(b) {
             return Ok(false);
         }
-        let Some(mut turn) = self.turn.take() else {
-            unreachable!()
-        };
+        let mut turn = taken(&mut self.turn);
         match self.book.disable(&board.board, b) {
             Ok(()) => {
                 turn.count(&mut self.ledger, 3);
-                self.turn = Some(turn);
+                self.turn = Some(turn.keep());
                 Ok(true)
             }
             Err(error) => {
-                self.turn = Some(turn);
+                self.turn = Some(turn.keep());
                 Err(error)
             }
         }
@@ -97,17 +96,15 @@ impl<J: Naming, S: Store + Drop> LockedBook<J, S> {
         if !wanted {
             return Ok(false);
         }
-        let Some(mut turn) = self.turn.take() else {
-            unreachable!()
-        };
+        let mut turn = taken(&mut self.turn);
         match self.book.enable(&board.board, b) {
             Ok(()) => {
                 turn.count(&mut self.ledger, 3);
-                self.turn = Some(turn);
+                self.turn = Some(turn.keep());
                 Ok(true)
             }
             Err(error) => {
-                self.turn = Some(turn);
+                self.turn = Some(turn.keep());
                 Err(error)
             }
         }

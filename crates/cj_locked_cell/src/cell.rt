@@ -60,8 +60,7 @@ impl<J: Naming, B: Backend> LockedCell<J, B> {
     /// Has the backend carry out or skip entry `n`, under this login, and says which backend it is and what it did.
     /// The pass has seen the entry, and has noted the rest then.
     ///
-    /// A cell that stands elsewhere than before the entry reports that it ran out of memory. None that is enabled
-    /// does.
+    /// A cell that stands elsewhere than before the entry reports that it ran out of memory.
     pub fn take(
         &mut self,
         board: &NamedBoard<J>,
