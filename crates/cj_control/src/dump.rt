@@ -1,21 +1,21 @@
 //! How a dump of a backend is taken beside work.
 
-ghost use Rattle.std.specs.Prelude.{◌≡◌, ◌≢◌, ◌<◌, [], true, length, IfErr, IfOk, OnOk, Some, is_none};
+ghost use Rattle.std.specs.Prelude.{◌≡◌, ◌≢◌, ◌<◌, [], true, length, Some};
 ghost use Rattle.cj_cluster.specs.History.Histories.{is_enabled};
 ghost use Rattle.cj_cluster.specs.History.Legality.{IsLegal};
 ghost use Rattle.cj_board.specs.Seats.{front, pass_view};
 ghost use Rattle.cj_pass.specs.Passes.{HasNotedMore};
-ghost use Rattle.cj_place.specs.Layouts.{covered, placement_of};
-ghost use Rattle.cj_locked.specs.Dumping.{CanSpare, DumpsSince, RefusesDump};
+ghost use Rattle.cj_place.specs.Layouts.{covered};
+ghost use Rattle.cj_locked.specs.Dumping.{CanSpare, DumpsSince};
 ghost use Rattle.cj_locked.specs.Marking.{BeginsMarkSince, HoldsMarked};
-ghost use Rattle.cj_control.specs.Restoring.{Dumps, IsDumpRefusalOf, ReadsDump};
+ghost use Rattle.cj_control.specs.Restoring.{refusal_of, Dumps, ReadsDump};
 
 use crate::control::Control;
 use crate::restore::RestoreError;
 use cj_backend::Backend;
 use cj_book::BookError;
 use cj_dump::Dump;
-use cj_locked::{BegunMarker, DumpRefusal, LockedBook, Turn};
+use cj_locked::{BegunMarker, DumpRefusal, Turn};
 use cj_log::LogError;
 use cj_model::{Name, TableSet};
 use cj_outside::Store;
@@ -37,32 +37,6 @@ fn refusal_of(refusal: DumpRefusal) -> RestoreError
 }
 
 impl<J: Naming, B: Backend, S: Store + Drop> Control<J, B, S> {
-    /// Waits for the turn, and begins the marker of a dump.
-    fn mark_dump<R: Wait>(
-        &self,
-        rt: &R,
-        pass: &mut Pass<J>,
-        name: &Name,
-        b: u8,
-    ) -> Result<BegunMarker<J, S>, DumpRefusal>
-        requires named { name.now ≢ [] }
-        requires below { b < length J.layout.names }
-        ensures ok { IfOk result (λ x. BeginsMarkSince S.tells S.faults (front pass.old.seat) (front pass.new.seat) name.now (Some b) x.turn.share.amount x.turn.log x.item) }
-        ensures spare { OnOk result (CanSpare J.layout (front pass.new.seat) b) }
-        ensures err { IfErr result (RefusesDump J.layout (front pass.new.seat) b name.now) }
-        ensures more { HasNotedMore (pass_view pass.old.seat) (pass_view pass.new.seat) }
-        ensures legal { IsLegal (front pass.new.seat) }
-    {
-        let mut book = self.locks.turn_back.wait_while(
-            rt,
-            self.locks.book.lock(rt),
-            |x: &mut LockedBook<J, S>| -> bool
-                ensures { result ≡ is_none x.new.log }
-            { x.is_taken() },
-        );
-        book.begin_dump(&self.locks.board, pass, name, b)
-    }
-
     /// Finishes what was begun, and wakes those who wait.
     fn finish_dump<R: Wait>(
         &self,
@@ -176,7 +150,11 @@ impl<J: Naming, B: Backend, S: Store + Drop> Control<J, B, S> {
         let Ok(covers) = self.locks.placement.covered(self.locks.alloc, b) else {
             return Err(RestoreError::NoMemory);
         };
-        match self.mark_dump(rt, pass, name, b) {
+        let begun = self
+            .locks
+            .wait_for_turn(rt)
+            .begin_dump(&self.locks.board, pass, name, b);
+        match begun {
             Ok(begun) => self.dump_marked(rt, pass, begun, name, b, covers),
             Err(refusal) => {
                 self.locks.turn_back.notify_one();

@@ -235,7 +235,7 @@ impl<J: Naming, B: Backend, S: Store + Drop> Control<J, B, S> {
             length,
             enabled,
             turn,
-        } = self.hold(rt, pass);
+        } = self.locks.wait_for_turn(rt).hold(&self.locks.board, pass);
         if self.is_in(enabled, b) {
             self.give_back(rt, pass, turn);
             return Err(RestoreError::AlreadyEnabled);
