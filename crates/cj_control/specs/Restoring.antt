@@ -31,7 +31,7 @@ WasEnabled F G b on = (m : List Event) × IsPrefix F m × IsPrefix m G × (is_en
 pub record IsDumpOf (tells : Bool) (l : Layout) (m : List Event) (name : List ℕ) (b : ℕ) (d : Dump) : Type 0 where
   pub position : d.position ≡ length (log m)
   pub source : d.source ≡ b
-  pub name : d.name ≡ name
+  pub named : d.name ≡ name
   pub all : d.all ≡ l.full
   pub covers : d.covers ≡ covered l b
   pub db : tells ≡ true → d.db ≡ part (placement_of l) b (database_after (log m) (length (log m)))
