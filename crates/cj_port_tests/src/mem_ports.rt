@@ -1,6 +1,6 @@
 //! A port in memory.
 
-use crate::streams::{PIECE, echo};
+use crate::streams::give_back;
 use cj_outside::{Failed, MemSink, MemSource, Source};
 use cj_port::{MemPort, Port};
 use std::alloc::{AllocError, Global};
@@ -26,7 +26,7 @@ fn connections_come_in_order_and_calls_fail_as_listed(rt: HostRuntime) -> Result
             assert!(rt; port.accept(&rt).is_err(), "call 2 is listed");
         }
         let (mut input, mut output) = port.accept(&rt)?;
-        assert!(rt; echo(&mut input, &mut output) == Ok(text.len() as u64));
+        assert!(rt; give_back(&mut input, &mut output) == Ok(text.len() as u64));
         assert!(rt; output.content() == text.as_bytes(), "{text}");
     }
     for _ in 0..2 {

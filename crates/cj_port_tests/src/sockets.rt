@@ -1,6 +1,6 @@
 //! A port that listens on this host.
 
-use crate::streams::{Echo, echo};
+use crate::streams::{Echo, give_back};
 use cj_edge_net::TcpPort;
 use cj_outside::{Sink, Source};
 use cj_port::{Port, Spawner};
@@ -25,10 +25,10 @@ fn a_client_is_answered_to_its_end(rt: HostRuntime) -> Result<(), Fail> {
     client.write_all(b"frame")?;
     let (mut input, mut output) = port.accept(&rt)?;
     let mut buf = [0u8; 8];
-    assert!(rt; input.take(&mut buf)? == 5 && buf[..5] == *b"frame");
+    assert!(rt; input.take(&mut buf)? == 5 && &buf[..5] == b"frame".as_slice());
     assert!(rt; output.put(b"reply")? == 5);
     client.read_exact(&mut buf[..5])?;
-    assert!(rt; buf[..5] == *b"reply");
+    assert!(rt; &buf[..5] == b"reply".as_slice());
     drop(client);
     assert!(rt; input.take(&mut buf)? == 0, "the client has gone");
     Ok(())
@@ -61,13 +61,13 @@ fn a_client_that_went_before_it_was_accepted_is_no_fault(rt: HostRuntime) -> Res
     let mut port = TcpPort::bind(&rt, rt.alloc(), HERE);
     drop(TcpStream::connect(&rt, port.address()?)?);
     let (mut input, mut output) = port.accept(&rt)?;
-    assert!(rt; echo(&mut input, &mut output) == Ok(0), "nothing came");
+    assert!(rt; give_back(&mut input, &mut output) == Ok(0), "nothing came");
     let mut client = TcpStream::connect(&rt, port.address()?)?;
     let (mut input, mut output) = port.accept(&rt)?;
     client.write_all(b"hello")?;
     drop(client);
     assert!(rt;
-        echo(&mut input, &mut output) == Ok(5),
+        give_back(&mut input, &mut output) == Ok(5),
         "the next is served"
     );
     assert!(rt; port.cause().is_none());

@@ -5,7 +5,7 @@ use cj_port::Task;
 use std::sync::Wait;
 
 /// The most bytes that are taken at a call.
-pub const PIECE: usize = 64;
+const PIECE: usize = 64;
 
 /// Gives back what comes, to its end. Returns how many bytes that were, up to a fault.
 pub fn echo<I: Source, O: Sink>(input: &mut I, output: &mut O) -> Result<u64, Failed> {
@@ -37,6 +37,6 @@ impl<I: Source + Send + Drop + 'static, O: Sink + Send + Drop + 'static> Task fo
             mut input,
             mut output,
         } = self;
-        drop(echo(&mut input, &mut output));
+        drop(give_back(&mut input, &mut output));
     }
 }
