@@ -8,7 +8,7 @@ use std::sync::Wait;
 const PIECE: usize = 64;
 
 /// Gives back what comes, to its end. Returns how many bytes that were, up to a fault.
-pub fn echo<I: Source, O: Sink>(input: &mut I, output: &mut O) -> Result<u64, Failed> {
+pub fn give_back<I: Source, O: Sink>(input: &mut I, output: &mut O) -> Result<u64, Failed> {
     let mut buf = [0u8; PIECE];
     let mut total = 0u64;
     for _ in 0..u64::MAX {
