@@ -93,7 +93,7 @@ impl<J: Naming, B: Backend> LockedCell<J, B> {
         }
     }
 
-    /// The same for a cell that has been told of the entry, and stands before it.
+    /// Has the backend carry out or skip entry `n`, of which the cell was told, and before which it stands.
     fn take_next(
         &mut self,
         board: &NamedBoard<J>,
@@ -116,7 +116,7 @@ impl<J: Naming, B: Backend> LockedCell<J, B> {
     }
 
     /// Answers a query of transaction `tx`, 0 for none, at a position not below `least`, if it is the cell of backend
-    /// `b`. The cell of another answers `Out`, in a branch that never runs. The pass has heard of it then.
+    /// `b`. The cell of another backend answers `Out`. The pass has heard of the answer then.
     pub fn read(
         &mut self,
         board: &NamedBoard<J>,
