@@ -28,8 +28,8 @@ returns-in-Err-marked-clause-more g c =
 
 pub returns-in-Err-marked-clause-checks : goal.returns-in-Err-marked-clause-checks
 returns-in-Err-marked-clause-checks g c =
-    not_marked (front c.args.pass.now.seat) (front c.begin_marker-begun.new.pass.seat) (front c.finish_checkpoint-marked.new.pass.seat) c.args.name.now c.in-Err-marked.error c.refusal_of-in-Err-marked.result c.begin_marker-begun.ensures.more.seen.front
-    c.in-Err-marked.ensures.marks c.refusal_of-in-Err-marked.ensures
+    not_marked (front c.args.pass.now.seat) (front c.begin_marker-begun.new.pass.seat) (front c.finish_checkpoint-marked.new.pass.seat) c.args.name.now c.in-Err-marked.error c.refusal_of.result c.begin_marker-begun.ensures.more.seen.front
+    c.in-Err-marked.ensures.marks c.refusal_of.ensures
 
 pub returns-in-Err-clause-checks : goal.returns-in-Err-clause-checks
 returns-in-Err-clause-checks g c =
