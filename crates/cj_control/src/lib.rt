@@ -13,6 +13,7 @@ mod administration;
 mod audit;
 mod caller;
 mod control;
+mod show;
 mod start;
 
 pub use administration::AdminError;
