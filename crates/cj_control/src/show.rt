@@ -1,23 +1,30 @@
 //! What the administrator is shown.
 
-ghost use Rattle.std.specs.Prelude.{◌≡◌, ◌++◌, ℕ, length, option_copied, Contains, IfOk, IfSome, OnOk};
+ghost use Rattle.std.specs.Prelude.{◌≡◌, ◌++◌, ℕ, length, map, option_copied, Contains, IfOk, IfSome, OnOk};
 ghost use Rattle.std.specs.Fmt.{decimal};
 ghost use Rattle.cj_model.specs.Cluster.Masks.{in_mask};
 ghost use Rattle.cj_model.specs.Sql.Names.{IsText};
+ghost use Rattle.cj_model.specs.Sql.PlainRequests as plain;
 ghost use Rattle.cj_print.specs.Ascii.{IsAsciiText};
 ghost use Rattle.cj_audit.specs.Audits.{StaysText};
 ghost use Rattle.cj_cluster.specs.History.Legality.{IsLegal};
 ghost use Rattle.cj_board.specs.Seats.{front, pass_view};
+ghost use Rattle.cj_listing.specs.Listing.{listing};
 ghost use Rattle.cj_pass.specs.Passes.{HasNotedMore};
+ghost use Rattle.cj_locked.specs.Listing.{item_of, items_between};
 ghost use Rattle.cj_control.specs.Showing as showing;
 ghost use Rattle.cj_control.specs.Showing.{AreNoted, ShowsBackends, backend_line, backends_text, counts_text, login_text, position_text};
 
 use crate::control::Control;
 use cj_audit::into_text;
 use cj_backend::{Backend, Counts};
-use cj_model::{Duplicate, Name, NoMemory, Text, has_bit};
+use cj_listing::make_line;
+use cj_locked::ShownItem;
+use cj_log::{LogEntry, LogItem};
+use cj_model::{Act, Duplicate, Entry, Name, Names, NoMemory, Request, Text, has_bit};
 use cj_outside::Store;
 use cj_pass::{Naming, Pass};
+use cj_print::write_sql;
 use std::alloc::Global;
 use std::sync::Wait;
 
@@ -124,6 +131,64 @@ fn append_line(
     append(text, b"\n")
 }
 
+/// Returns the request that an act comes from.
+fn request_of(act: Act) -> Request
+    ensures { result ≡ plain.request_of act }
+{
+    match act {
+        Act::Begin => Request::Begin,
+        Act::Write(write) => Request::Write(write),
+        Act::Create(create) => Request::Create(create),
+        Act::Drop(table) => Request::Drop(table),
+        Act::Commit => Request::Commit,
+        Act::Abort => Request::Rollback,
+    }
+}
+
+/// Makes the item of the log that a shown one is a copy of, with the canonical text of an entry.
+fn log_item(alloc: Global, shown: ShownItem) -> Result<LogItem, NoMemory>
+    ensures { IfOk result (λ item. item ≡ item_of shown) }
+{
+    match shown {
+        ShownItem::Entry(number, entry) => {
+            let Entry {
+                session,
+                seq,
+                tx,
+                user,
+                act,
+            } = entry;
+            let text = write_sql(alloc, &request_of(act))?;
+            Ok(LogItem::Entry(LogEntry {
+                number,
+                session,
+                seq,
+                tx,
+                user,
+                text,
+            }))
+        }
+        ShownItem::Marker(marker) => Ok(LogItem::Marker(marker)),
+    }
+}
+
+/// Returns the lines of what is shown of the log, where backends have these names. Bytes that are no text run out of
+/// memory, in a branch that never runs.
+fn log_text(alloc: Global, names: &Names, items: Vec<ShownItem>) -> Result<Text, NoMemory>
+    ensures { IfOk result (λ text. text ≡ listing names.now (map item_of items.items)) }
+{
+    let mut text = Vec::new(alloc);
+    for shown in items {
+        let item = log_item(alloc, shown)?;
+        let line = make_line(alloc, names, &item)?;
+        text.extend_from_slice(&line)?;
+    }
+    match Text::of(text) {
+        Some(text) => Ok(text),
+        None => Err(NoMemory),
+    }
+}
+
 impl<J: Naming, B: Backend, S: Store + Drop> Control<J, B, S> {
     /// Looks at backend `b`, and copies what is shown of it while its lock is held.
     ///
@@ -189,6 +254,28 @@ impl<J: Naming, B: Backend, S: Store + Drop> Control<J, B, S> {
             Ok(looks) => self.lines_of(&looks, enabled),
             Err(error) => Err(error),
         }
+    }
+
+    /// Returns a line for each entry from `first` to `last` of the recovery log, counted from 1, and for each marker
+    /// that has at least `first` and fewer than `last` entries before it, in their order.
+    ///
+    /// What is shown is copied while the book's lock is held. No lock is held while the lines are made.
+    pub fn show_log<R: Wait>(
+        &self,
+        rt: &R,
+        pass: &mut Pass<J>,
+        first: u64,
+        last: u64,
+    ) -> Result<Text, NoMemory>
+        ensures log { IfOk result (λ text. text ≡ listing J.layout.names (items_between first last (front pass.new.seat))) }
+        ensures more { HasNotedMore (pass_view pass.old.seat) (pass_view pass.new.seat) }
+        ensures legal { IsLegal (front pass.new.seat) }
+    {
+        let alloc = self.locks.alloc;
+        let mut book = self.locks.book.lock(rt);
+        let items = book.shown(alloc, &self.locks.board, pass, first, last)?;
+        drop(book);
+        log_text(alloc, self.locks.placement.names(), items)
     }
 
     /// Returns the hits and the misses that the result cache has counted.
