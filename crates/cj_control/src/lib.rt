@@ -7,7 +7,8 @@
 //! history, and each backend as enabled exactly if it is so there.
 //! No lock is held while another is taken. No lock that a read needs is held over an append, a print or a query.
 //! To change: `administration.rt`, `audit.rt` and `show.rt` have what the administrator may do, `start.rt` how it
-//! begins and ends. To read: `specs/Callers`, `specs/Administration`, `specs/Showing`. Proofs begin in `proofs/Callers`.
+//! begins and ends. To read: `specs/Callers`, `specs/Administration`, `specs/Showing`. Proofs begin in
+//! `proofs/Callers`.
 #![tactic(auto)]
 
 mod administration;
