@@ -13,7 +13,7 @@ ghost use Rattle.cj_state.specs.Seats.{AreCellsAt};
 ghost use Rattle.cj_pass.specs.Passes.{HasNotedMore};
 ghost use Rattle.cj_control.specs.Starting.{AreOfStarted, FallTo, HoldFrom, IsCurrentAt};
 
-use crate::control::Control;
+use crate::control::{Control, Emptied};
 use cj_backend::Backend;
 use cj_locked::{LockedBook, Turn};
 use cj_locked_cell::LockedCell;
@@ -174,8 +174,10 @@ impl<J: Naming, B: Backend + Drop, S: Store + Drop> Control<J, B, S> {
         };
         let control = Control {
             locks,
-            unlocked: room.unlocked,
-            emptied,
+            emptied: Mutex::new(Emptied {
+                cells: room.unlocked,
+                backends: emptied,
+            }),
         };
         Ok((control, pass))
     }
@@ -214,11 +216,11 @@ impl<J: Naming, B: Backend + Drop, S: Store + Drop> Control<J, B, S> {
         ensures as_many { IfSome result (λ backends. length backends ≡ length self.locks.placement.names) }
         ensures current { IfSome result (HoldFrom (λ b x. IsCurrentAt B.tells (placement_of J.layout) (front pass.new.seat) b (B.told x)) 0) }
     {
-        let Control {
-            locks,
-            unlocked: empty,
-            emptied,
-        } = self;
+        let Control { locks, emptied } = self;
+        let Emptied {
+            cells: empty,
+            backends,
+        } = emptied.into_inner();
         let Locks {
             board,
             book,
@@ -228,7 +230,7 @@ impl<J: Naming, B: Backend + Drop, S: Store + Drop> Control<J, B, S> {
         let mut book = book.into_inner();
         book.tell(&board, pass);
         let cells = unlocked(&board, pass, cells, empty)?;
-        let backends = backends_of(&board, pass, cells, emptied);
+        let backends = backends_of(&board, pass, cells, backends);
         Some(ListOf::from_vec(backends))
     }
 }
