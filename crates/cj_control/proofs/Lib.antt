@@ -2,4 +2,5 @@ pub mod Administering
 pub mod Auditing
 pub mod Callers
 pub mod Restoring
+pub mod Showing
 pub mod Starting

@@ -144,7 +144,8 @@ impl<J: Naming, B: Backend, S: Store + Drop> Control<J, B, S> {
         Ok(n)
     }
 
-    /// The same, from where the backend stands.
+    /// Has backend `b` take up to `most` entries more from where it stands, as far as the first `until`. Returns how many
+    /// it has taken then.
     fn replay_there<R: Wait>(
         &self,
         rt: &R,

@@ -2,6 +2,7 @@ pub mod Auditing
 pub mod Changes
 pub mod Dumping
 pub mod Failures
+pub mod Listing
 pub mod Locked
 pub mod Looking
 pub mod Marking

@@ -51,7 +51,7 @@ impl<J: Naming, S: Store + Drop> LockedBook<J, S> {
         Ok(Some(begun))
     }
 
-    /// The same, of a name that no marker has.
+    /// Begins a marker of a name that no marker has.
     pub(crate) fn begin_fresh(
         &mut self,
         name: &Name,
@@ -104,7 +104,7 @@ impl<J: Naming, S: Store + Drop> LockedBook<J, S> {
         marked
     }
 
-    /// The same, of which no pass hears.
+    /// Finishes a marker that was begun, of which no pass hears.
     pub(crate) fn mark_now(
         &mut self,
         board: &NamedBoard<J>,
