@@ -63,7 +63,7 @@ impl<J: Naming, S: Store + Drop> LockedBook<J, S> {
     }
 
     /// Takes the turn back from who held it, and enables a backend that has taken the first `n` entries. False if it is
-    /// enabled already, or if there are more entries by now; neither comes if the turn was held since that was seen.
+    /// enabled already, or if the log has more entries.
     pub fn enable(
         &mut self,
         board: &NamedBoard<J>,
