@@ -58,7 +58,10 @@ impl<J: Naming, B: Backend, S: Store + Drop> Locks<J, B, S> {
         let (number, did) = self.cells[b as usize]
             .lock(rt)
             .take(&self.board, pass, n, e, login);
-        if number == b { did } else { Did::Starved }
+        if number != b {
+            return Did::Starved;
+        }
+        did
     }
 
     /// Has backend `b`, which has taken `n` entries, take this one, which is the next.
