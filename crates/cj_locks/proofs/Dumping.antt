@@ -1,23 +1,27 @@
 -- A dump that is begun, finished and read.
-use Rattle.std.proofs.Common.{◌≡◌, ◌≢◌, ℕ, ◌<◌, Bool, true, false, List, [], ◌∷◌, ◌++◌, length, Option, Some, Result, Ok, Err, refl, ap, sym, ◌∙◌, subst, arith, append_assoc}
+use Rattle.std.proofs.Common.{◌≡◌, ◌≢◌, ℕ, ◌<◌, ◌≤◌, Bool, true, false, List, [], ◌∷◌, ◌++◌, length, Option, Some, Result, Ok, Err, refl, ap, sym, ◌∙◌, subst, arith, append_assoc}
 use Rattle.std.proofs.lemmas.Bool.{both_ways}
 use mathlib.Core.List.{IsPrefix}
+use Rattle.cj_model.specs.declared.database.Slot.{Slot}
 use Rattle.cj_model.specs.declared.limits.TheConstants.{BACKEND_LIMIT}
+use Rattle.cj_model.specs.Cluster.Placements.{Placement, part}
 use Rattle.cj_cluster.specs.declared.event.Event.{Event}
 use Rattle.cj_cluster.specs.declared.event.Event.TheVariants.{Disabled, Marker}
-use Rattle.cj_cluster.specs.History.Histories.{events_left, is_enabled}
-use Rattle.cj_cluster.proofs.Pushed.{enabled-push, prefix_trans}
+use Rattle.cj_cluster.specs.History.Histories.{database_after, events_left, is_enabled, log}
+use Rattle.cj_cluster.proofs.Pushed.{at-prefix, enabled-push, log-prefix, prefix_self, prefix_trans}
 use Rattle.cj_place.specs.Layouts.{Layout}
 use Rattle.cj_board.specs.declared.view.SeatView.{SeatView}
+use Rattle.cj_book.specs.BookLogs.{BookLogState}
 use Rattle.cj_book.specs.declared.error.BookError.{BookError}
 use Rattle.cj_book.specs.declared.error.BookError.TheVariants as book_errors
 use Rattle.cj_dump.specs.declared.dump.Dump.{Dump}
+use Rattle.cj_log.specs.declared.item.LogItem.{LogItem}
 use Rattle.cj_pass.specs.Passes.{HasNotedMore}
 use Rattle.cj_pass.proofs.Passes.{noted_self}
 use Rattle.cj_locked_cell.proofs.Asking.{fault_between}
 use Rattle.cj_locked.specs.Auditing.{IsHeldOver}
 use Rattle.cj_locked.specs.Changes.{BringsAt}
-use Rattle.cj_locked.specs.Marking.{MarksSince}
+use Rattle.cj_locked.specs.Marking.{BeginsMarkSince, MarksSince}
 use Rattle.cj_locks.specs.Dumping.{CanSpare, Dumps, DumpsSince, MarksDump, ReadsDump, RefusesDump}
 use Rattle.cj_locks.specs.declared.restore.RestoreError.{RestoreError}
 use Rattle.cj_locks.specs.declared.restore.RestoreError.TheVariants as errors
@@ -27,6 +31,14 @@ pub can_name : (b : ℕ) → b < BACKEND_LIMIT → Some b ≢ Some 255
 can_name b few same = let is : b ≡ 255 = cc same in absurd (omega (arith, few, is))
 
 -- ---- its marker
+
+-- a pass had seen less before
+pub begun_earlier : {S : Type 0} (tells : Bool) (count : S → ℕ) (F G H : List Event) (name : List ℕ) (b : Option ℕ) (amount : ℕ) (l : BookLogState S) (item : LogItem) → IsPrefix F G → BeginsMarkSince tells count G H name b amount l item → BeginsMarkSince tells count F H name b amount l item
+begun_earlier tells count F G H name b amount l item longer since = record { holds = since.holds; longer = prefix_trans F G since.holds.m longer since.longer; is = since.is; its = since.its }
+
+-- it was begun by what a pass had seen then
+pub begun_again : {S : Type 0} (tells : Bool) (count : S → ℕ) (F G : List Event) (name : List ℕ) (b : Option ℕ) (amount : ℕ) (l : BookLogState S) (item : LogItem) → BeginsMarkSince tells count F G name b amount l item → BeginsMarkSince tells count G G name b amount l item
+begun_again tells count F G name b amount l item since = record { holds = since.holds; longer = subst (IsPrefix G) since.is (prefix_self G); is = since.is; its = since.its }
 
 -- none came
 pub unmarked : (F G : List Event) (name : List ℕ) (b : ℕ) (error : BookError) → MarksSince F G name (Some b) (Err error) → DumpsSince F G name b (Err error)
@@ -55,6 +67,11 @@ module _ (F H G : List Event) (name : List ℕ) (b n : ℕ) (since : MarksSince 
   }
   dumped was false at = absurd
       (both_ways (is_enabled H b) at.0 (ap (λ (x : List Event). is_enabled x b) since.at.2 ∙ (enabled-push since.m (Marker name (Some b)) b ∙ (since.over.enabled b ∙ was))))
+
+-- what a backend gives at a position of a longer log is what it has at the end of the log there
+pub part_at_end : (m G : List Event) → IsPrefix m G → (n : ℕ) → n ≡ length (log m) → (p : Placement) (b : ℕ) (db : List Slot) → db ≡ part p b (database_after (log G) n) → db ≡ part p b (database_after (log m) (length (log m)))
+part_at_end m G begins n is p b db holds =
+    holds ∙ (ap (λ (k : ℕ). part p b (database_after (log G) k)) is ∙ ap (part p b) (at-prefix (log m) (log G) (length (log m)) (log-prefix m G begins) (omega arith)))
 
 -- ---- what it comes to
 
@@ -91,6 +108,7 @@ module _ (tells : Bool) (l : Layout) (b : ℕ) (name : List ℕ) (u v : SeatView
 
   -- the backend was asked for what it holds
   pub dump_read : (n : ℕ) → DumpsSince u.front v.front name b (Ok n) → HasNotedMore u v → (w : SeatView) → HasNotedMore v w → (r : Result Dump RestoreError) → ReadsDump tells l name b n v w r → Dumps tells l b name u w r
+    unfolding dump_marks
   dump_read n since before w more r reads = by r reads
     where
       marks : MarksDump l u.front w.front name b
