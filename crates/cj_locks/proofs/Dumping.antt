@@ -108,7 +108,7 @@ module _ (tells : Bool) (l : Layout) (b : ℕ) (name : List ℕ) (u v : SeatView
 
   -- the backend was asked for what it holds
   pub dump_read : (n : ℕ) → DumpsSince u.front v.front name b (Ok n) → HasNotedMore u v → (w : SeatView) → HasNotedMore v w → (r : Result Dump RestoreError) → ReadsDump tells l name b n v w r → Dumps tells l b name u w r
-    unfolding dump_marks
+  unfolding dump_marks
   dump_read n since before w more r reads = by r reads
     where
       marks : MarksDump l u.front w.front name b
