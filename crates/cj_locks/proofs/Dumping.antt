@@ -40,24 +40,8 @@ begun_earlier tells count F G H name b amount l item longer since = record { hol
 pub begun_again : {S : Type 0} (tells : Bool) (count : S → ℕ) (F G : List Event) (name : List ℕ) (b : Option ℕ) (amount : ℕ) (l : BookLogState S) (item : LogItem) → BeginsMarkSince tells count F G name b amount l item → BeginsMarkSince tells count G G name b amount l item
 begun_again tells count F G name b amount l item since = record { holds = since.holds; longer = subst (IsPrefix G) since.is (prefix_self G); is = since.is; its = since.its }
 
--- none came
-pub unmarked : (F G : List Event) (name : List ℕ) (b : ℕ) (error : BookError) → MarksSince F G name (Some b) (Err error) → DumpsSince F G name b (Err error)
-unmarked F G name b (book_errors.InProgress n) since = absurd since.at
-unmarked F G name b book_errors.NoBackend since = absurd since.at
-unmarked F G name b (book_errors.HistoryFull n) since = absurd since.at
-unmarked F G name b book_errors.LogFault since = record { m = since.m; over = since.over; at = since.at }
-unmarked F G name b book_errors.NoMemory since = record { m = since.m; over = since.over; at = since.at }
-
 -- it came, which gave H
 module _ (F H G : List Event) (name : List ℕ) (b n : ℕ) (since : MarksSince F H name (Some b) (Ok n)) where
-  -- there was no room to disable the backend
-  pub not_disabled : (error : BookError) → BringsAt H (Disabled b) (is_enabled H b) (Err error) G → DumpsSince F G name b (Err error)
-  not_disabled (book_errors.InProgress k) at = absurd at
-  not_disabled book_errors.NoBackend at = absurd at
-  not_disabled (book_errors.HistoryFull k) at = record { m = since.m; over = since.over; at = (at.3 ∙ since.at.2, at.2 ∙ ap length (sym at.3), subst (λ (x : List Event). events_left x < 1) (sym at.3) at.1) }
-  not_disabled book_errors.LogFault at = absurd at
-  not_disabled book_errors.NoMemory at = absurd at
-
   -- the backend was enabled, and is disabled
   pub dumped : is_enabled F b ≡ true → (done : Bool) → BringsAt H (Disabled b) (is_enabled H b) (Ok done) G → DumpsSince F G name b (Ok n)
   dumped was true at = record {
@@ -74,22 +58,6 @@ part_at_end m G begins n is p b db holds =
     holds ∙ (ap (λ (k : ℕ). part p b (database_after (log G) k)) is ∙ ap (part p b) (at-prefix (log m) (log G) (length (log m)) (log-prefix m G begins) (omega arith)))
 
 -- ---- what it comes to
-
--- none was begun
-pub dump_refused : (tells : Bool) (l : Layout) (b : ℕ) (name : List ℕ) (u v : SeatView) → IsPrefix u.front v.front → (error : RestoreError) → RefusesDump l v.front b name error → Dumps tells l b name u v (Err error)
-dump_refused tells l b name u v longer errors.NotEnabled why = (longer, why)
-dump_refused tells l b name u v longer errors.NameTaken why = why
-dump_refused tells l b name u v longer (errors.LastHost table) why = (why.1, why.2)
-dump_refused tells l b name u v longer (errors.HistoryFull n) why = (why.2, why.3)
-dump_refused tells l b name u v longer errors.NoMemory why = tt
-dump_refused tells l b name u v longer errors.AlreadyEnabled why = absurd why
-dump_refused tells l b name u v longer errors.LogFault why = absurd why
-dump_refused tells l b name u v longer (errors.Fault k) why = absurd why
-dump_refused tells l b name u v longer errors.Starved why = absurd why
-dump_refused tells l b name u v longer (errors.Out seen) why = absurd why
-dump_refused tells l b name u v longer errors.NotOut why = absurd why
-dump_refused tells l b name u v longer (errors.DumpLacks table) why = absurd why
-dump_refused tells l b name u v longer (errors.DumpAhead n) why = absurd why
 
 -- while the turn was held the same backends were enabled
 spare_over : (l : Layout) (F m : List Event) (b : ℕ) → IsHeldOver F m → CanSpare l F b → CanSpare l m b
@@ -132,13 +100,6 @@ module _ (tells : Bool) (l : Layout) (b : ℕ) (name : List ℕ) (u v : SeatView
       by (Err errors.NotOut) is = absurd is
       by (Err (errors.DumpLacks table)) is = absurd is
       by (Err (errors.DumpAhead k)) is = absurd is
-
--- failures in queries had taken the room of the second event
-pub dump_full : (tells : Bool) (l : Layout) (b : ℕ) (name : List ℕ) (u v : SeatView) (n : ℕ) → DumpsSince u.front v.front name b (Err (book_errors.HistoryFull n)) → Dumps tells l b name u v (Err (errors.HistoryFull n))
-dump_full tells l b name u v n since = let none : events_left v.front < 1 = since.at.2 in (since.at.1, omega (arith, none))
-
-pub dump_faulted : (tells : Bool) (l : Layout) (b : ℕ) (name : List ℕ) (u v : SeatView) → DumpsSince u.front v.front name b (Err book_errors.LogFault) → Dumps tells l b name u v (Err errors.LogFault)
-dump_faulted tells l b name u v since = (since.m, since.over.longer, since.at)
 
 -- a pass had seen less before
 pub dumps_earlier : (tells : Bool) (l : Layout) (b : ℕ) (name : List ℕ) (u v w : SeatView) → HasNotedMore u v → (r : Result Dump RestoreError) → Dumps tells l b name v w r → Dumps tells l b name u w r

@@ -16,8 +16,8 @@ returns-in-Ok-clause-more g c = noted_then (pass_view c.args.pass.now.seat) (pas
 
 pub returns-in-Err-clause-enables : goal.returns-in-Err-clause-enables
 returns-in-Err-clause-enables g c =
-    not_replayed c.args.b c.hold-length.result.length c.hold-length.result.length (pass_view c.args.pass.now.seat) (pass_view c.hold-length.new.pass.seat) (pass_view c.replay_there.new.pass.seat) (pass_view c.give_back-2.new.pass.seat)
-    c.hold-length.ensures.more c.give_back-2.ensures.more c.in-Err.error c.in-Err.ensures.replays
+    not_replayed c.args.b c.hold-length.result.length c.hold-length.result.length (pass_view c.args.pass.now.seat) (pass_view c.hold-length.new.pass.seat) (pass_view c.replay_there.new.pass.seat) (pass_view c.give_back-in-Err.new.pass.seat)
+    c.hold-length.ensures.more c.give_back-in-Err.ensures.more c.in-Err.error c.in-Err.ensures.replays
 
 pub returns-in-Err-clause-more : goal.returns-in-Err-clause-more
-returns-in-Err-clause-more g c = noted_then (pass_view c.args.pass.now.seat) (pass_view c.replay_there.new.pass.seat) (pass_view c.give_back-2.new.pass.seat) (noted_then (pass_view c.args.pass.now.seat) (pass_view c.hold-length.new.pass.seat) (pass_view c.replay_there.new.pass.seat) c.hold-length.ensures.more c.replay_there.ensures.more) c.give_back-2.ensures.more
+returns-in-Err-clause-more g c = noted_then (pass_view c.args.pass.now.seat) (pass_view c.replay_there.new.pass.seat) (pass_view c.give_back-in-Err.new.pass.seat) (noted_then (pass_view c.args.pass.now.seat) (pass_view c.hold-length.new.pass.seat) (pass_view c.replay_there.new.pass.seat) c.hold-length.ensures.more c.replay_there.ensures.more) c.give_back-in-Err.ensures.more
