@@ -1,0 +1,148 @@
+//! What a cluster is configured with.
+
+ghost use Rattle.std.specs.Prelude.{◌≡◌, All, IfOk, IfSome, length};
+ghost use Rattle.cj_model.specs.Cluster.Caching.{empty_cache};
+ghost use Rattle.cj_conf.specs.Confs.{IsUsable};
+ghost use Rattle.cj_flaky.specs.FlakyBackends.{fresh_over};
+ghost use Rattle.cj_mem.specs.MemoryBackends.{fresh_state};
+
+use crate::gate::Slow;
+use crate::tasks::{Placed, Plan};
+use cj_balance::Balancer;
+use cj_book::BookParts;
+use cj_cache::Cache;
+use cj_conf::{Conf, read_conf};
+use cj_core::{Backends, Parts};
+use cj_flaky::{Flaky, Gated};
+use cj_mem::MemBackend;
+use cj_model::{ListOf, NoMemory};
+use cj_outside::{Draw, PcgDraw};
+use std::alloc::Global;
+
+/// A backend that fails in some calls, and whose writes take time.
+pub type Tried = Gated<Flaky<MemBackend>, Slow>;
+
+/// So many steps each write of a backend takes. With a planted fault they are more, so that it shows at once.
+const STEPS: u32 = 20000;
+
+const STEPS_PLANTED: u32 = 200000;
+
+/// A backend that fails does so in so many calls of the first `LAST`.
+
+const FAILS: u64 = 6;
+
+const LAST: u64 = 30000;
+
+const EVERYWHERE: &[u8] = b"level = \"raidb1\"
+cache = 8
+backends = [{ name = \"b0\", kind = \"memory\" }, { name = \"b1\", kind = \"memory\" }, { name = \"b2\", kind = \"memory\" }, { name = \"b3\", kind = \"memory\" }]
+users = [{ name = \"ann\", sha256 = \"2bb80d537b1da3e38bd30361aa855686bde0eacd7162fef6a25fe97bf527a25b\", logins = [\"l0\", \"l1\", \"l2\", \"l3\"] }]
+";
+
+const IN_PART: &[u8] = b"level = \"raidb2\"
+cache = 8
+backends = [{ name = \"b0\", kind = \"memory\" }, { name = \"b1\", kind = \"memory\" }, { name = \"b2\", kind = \"memory\" }, { name = \"b3\", kind = \"memory\" }]
+tables = [{ name = \"t0\", hosts = [\"b0\", \"b1\"] }, { name = \"t1\", hosts = [\"b1\", \"b2\", \"b3\"] }, { name = \"t2\", hosts = [\"b0\", \"b2\", \"b3\"] }, { name = \"t3\", hosts = [\"b2\", \"b3\"] }]
+users = [{ name = \"ann\", sha256 = \"2bb80d537b1da3e38bd30361aa855686bde0eacd7162fef6a25fe97bf527a25b\", logins = [\"l0\", \"l1\", \"l2\", \"l3\"] }]
+";
+
+const MEASURED: &[u8] = b"level = \"raidb1\"
+cache = 0
+backends = [{ name = \"b0\", kind = \"memory\" }, { name = \"b1\", kind = \"memory\" }]
+users = [{ name = \"ann\", sha256 = \"2bb80d537b1da3e38bd30361aa855686bde0eacd7162fef6a25fe97bf527a25b\", logins = [\"l0\", \"l1\"] }]
+";
+
+const MEASURED_CACHE: &[u8] = b"level = \"raidb1\"
+cache = 4096
+backends = [{ name = \"b0\", kind = \"memory\" }, { name = \"b1\", kind = \"memory\" }]
+users = [{ name = \"ann\", sha256 = \"2bb80d537b1da3e38bd30361aa855686bde0eacd7162fef6a25fe97bf527a25b\", logins = [\"l0\", \"l1\"] }]
+";
+
+/// The configuration of a cluster that is tried.
+pub fn tried(placed: Placed) -> &'static [u8] {
+    match placed {
+        Placed::Everywhere => EVERYWHERE,
+        Placed::InPart => IN_PART,
+    }
+}
+
+/// The configuration of a cluster that is measured.
+pub fn measured(cache: bool) -> &'static [u8] {
+    if cache { MEASURED_CACHE } else { MEASURED }
+}
+
+/// The configuration that a text is. None if it is none, or memory is wanting.
+pub fn conf_of(alloc: Global, text: &[u8]) -> Option<Conf>
+    ensures { IfSome result IsUsable }
+{
+    match read_conf(alloc, text) {
+        Ok(conf) => Some(conf),
+        Err(_) => None,
+    }
+}
+
+/// Makes of a configuration what a world is made of beside its backends.
+pub fn parts_of(alloc: Global, conf: Conf) -> Result<Parts, NoMemory>
+    requires { IsUsable conf }
+    ensures placement { IfOk result (λ parts. parts.book.placement ≡ conf.placement) }
+    ensures cache { IfOk result (λ parts. parts.book.cache ≡ empty_cache conf.cache) }
+    ensures accounts { IfOk result (λ parts. parts.accounts ≡ conf.accounts) }
+{
+    let Conf {
+        placement,
+        accounts,
+        policy,
+        weights,
+        cache,
+        ..
+    } = conf;
+    Ok(Parts {
+        book: BookParts {
+            placement,
+            balancer: Balancer::new(policy, weights),
+            cache: Cache::new(alloc, cache)?,
+        },
+        accounts,
+    })
+}
+
+/// Makes so many empty backends in memory.
+pub fn memory_backends(alloc: Global, count: u8) -> Result<Backends<MemBackend>, NoMemory>
+    ensures count { IfOk result (λ backends. length backends ≡ count) }
+    ensures fresh { IfOk result (All (λ b. b ≡ fresh_state)) }
+{
+    let mut backends = Backends::new(alloc);
+    for _ in 0..count {
+        backends.push(MemBackend::new(alloc))?;
+    }
+    Ok(backends)
+}
+
+/// Draws the numbers of the calls that fail.
+fn drawn_fails(alloc: Global, draw: &mut PcgDraw) -> Result<ListOf<u64>, NoMemory> {
+    let mut fails = ListOf::new(alloc);
+    for _ in 0..FAILS {
+        fails.push(draw.below(LAST))?;
+    }
+    Ok(fails)
+}
+
+/// Makes so many empty backends. If some calls fail, those of the first backend do not.
+pub fn tried_backends(alloc: Global, count: u8, plan: Plan) -> Result<Backends<Tried>, NoMemory>
+    ensures count { IfOk result (λ backends. length backends ≡ count) }
+    ensures fresh { IfOk result (All (λ b. b.inner ≡ fresh_over fresh_state b.inner.fails)) }
+{
+    let mut draw = PcgDraw::new(plan.seed);
+    let mut backends = Backends::new(alloc);
+    let steps = if plan.plants { STEPS_PLANTED } else { STEPS };
+    for b in 0..count {
+        let listed = if plan.fails && b > 0 {
+            drawn_fails(alloc, &mut draw)?
+        } else {
+            ListOf::new(alloc)
+        };
+        let flaky = Flaky::new(MemBackend::new(alloc), listed);
+        backends.push(Gated::new(flaky, Slow::new(steps)))?;
+    }
+    Ok(backends)
+}
