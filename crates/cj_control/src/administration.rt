@@ -11,17 +11,18 @@ ghost use Rattle.cj_book.specs.Books as books;
 ghost use Rattle.cj_locked.specs.Changes.{BringsSince};
 ghost use Rattle.cj_locked.specs.Marking.{BeginsMarkSince, HoldsMarked, MarksSince, RefusesMark};
 ghost use Rattle.cj_locked.specs.Orphans.{BeginsAbortSince, IsAbortOf, RefusesAbort, RefusesAppendedSince, SchedulesAbortSince};
-ghost use Rattle.cj_locked.specs.Passes.{HasNotedMore, HasSeenMore};
+ghost use Rattle.cj_pass.specs.Passes.{HasNotedMore, HasSeenMore};
 ghost use Rattle.cj_locked.specs.Writing.{HoldsAppended, HoldsEntry};
 ghost use Rattle.cj_control.specs.Administration.{CanRefuse, ChecksSince, DisablesSince, EndsOrphanSince, IsRefusalOf};
 
 use crate::control::Control;
 use cj_backend::Backend;
 use cj_book::{BookError, Prepared};
-use cj_locked::{Begun, BegunAbort, BegunMarker, LockedBook, Naming, OpenEntry, Pass, Turn};
+use cj_locked::{Begun, BegunAbort, BegunMarker, LockedBook, OpenEntry, Turn};
 use cj_log::LogError;
 use cj_model::{Entry, Name};
 use cj_outside::Store;
+use cj_pass::{Naming, Pass};
 use std::sync::Wait;
 use thiserror::Error;
 
@@ -69,14 +70,14 @@ impl<J: Naming, B: Backend, S: Store + Drop> Control<J, B, S> {
         ensures more { HasNotedMore (pass_view pass.old.seat) (pass_view pass.new.seat) }
         ensures legal { IsLegal (front pass.new.seat) }
     {
-        let mut book = self.turn_back.wait_while(
+        let mut book = self.locks.turn_back.wait_while(
             rt,
-            self.book.lock(rt),
+            self.locks.book.lock(rt),
             |x: &mut LockedBook<J, S>| -> bool
                 ensures { result ≡ is_none x.new.log }
             { x.is_taken() },
         );
-        book.disable(&self.board, pass, b)
+        book.disable(&self.locks.board, pass, b)
     }
 
     /// Disables a backend, so that it takes no further entry and answers no query. Waits for the turn.
@@ -87,7 +88,7 @@ impl<J: Naming, B: Backend, S: Store + Drop> Control<J, B, S> {
         ensures legal { IsLegal (front pass.new.seat) }
     {
         let disabled = self.disable_in_turn(rt, pass, b);
-        self.turn_back.notify_one();
+        self.locks.turn_back.notify_one();
         match disabled {
             Ok(true) => Ok(()),
             Ok(false) => Err(AdminError::NotEnabled),
@@ -109,14 +110,14 @@ impl<J: Naming, B: Backend, S: Store + Drop> Control<J, B, S> {
         ensures more { HasNotedMore (pass_view pass.old.seat) (pass_view pass.new.seat) }
         ensures legal { IsLegal (front pass.new.seat) }
     {
-        let mut book = self.turn_back.wait_while(
+        let mut book = self.locks.turn_back.wait_while(
             rt,
-            self.book.lock(rt),
+            self.locks.book.lock(rt),
             |x: &mut LockedBook<J, S>| -> bool
                 ensures { result ≡ is_none x.new.log }
             { x.is_taken() },
         );
-        book.begin_marker(&self.board, pass, name, None)
+        book.begin_marker(&self.locks.board, pass, name, None)
     }
 
     /// Finishes a marker that was begun, gives the turn back, and wakes those who wait for it.
@@ -134,11 +135,12 @@ impl<J: Naming, B: Backend, S: Store + Drop> Control<J, B, S> {
         ensures legal { IsLegal (front pass.new.seat) }
     {
         let marked = self
+            .locks
             .book
             .lock(rt)
-            .finish_marker(&self.board, pass, turn, name, None, appended);
-        self.settled.notify_all();
-        self.turn_back.notify_one();
+            .finish_marker(&self.locks.board, pass, turn, name, None, appended);
+        self.locks.settled.notify_all();
+        self.locks.turn_back.notify_one();
         marked
     }
 
@@ -167,11 +169,11 @@ impl<J: Naming, B: Backend, S: Store + Drop> Control<J, B, S> {
                 }
             }
             Ok(None) => {
-                self.turn_back.notify_one();
+                self.locks.turn_back.notify_one();
                 Err(AdminError::NameTaken)
             }
             Err(error) => {
-                self.turn_back.notify_one();
+                self.locks.turn_back.notify_one();
                 Err(refusal_of(error))
             }
         }
@@ -189,14 +191,14 @@ impl<J: Naming, B: Backend, S: Store + Drop> Control<J, B, S> {
         ensures more { HasNotedMore (pass_view pass.old.seat) (pass_view pass.new.seat) }
         ensures legal { IsLegal (front pass.new.seat) }
     {
-        let mut book = self.turn_back.wait_while(
+        let mut book = self.locks.turn_back.wait_while(
             rt,
-            self.book.lock(rt),
+            self.locks.book.lock(rt),
             |x: &mut LockedBook<J, S>| -> bool
                 ensures { result ≡ is_none x.new.log }
             { x.is_taken() },
         );
-        book.begin_abort(self.alloc, &self.board, pass, tx)
+        book.begin_abort(self.locks.alloc, &self.locks.board, pass, tx)
     }
 
     /// Finishes what was begun. An orphan stays one until then, so this waits for nothing but the lock.
@@ -219,14 +221,14 @@ impl<J: Naming, B: Backend, S: Store + Drop> Control<J, B, S> {
         ensures legal { IsLegal (front pass.new.seat) }
     {
         let tx = e.tx;
-        let mut book = self.settled.wait_while(
+        let mut book = self.locks.settled.wait_while(
             rt,
-            self.book.lock(rt),
+            self.locks.book.lock(rt),
             |x: &mut LockedBook<J, S>| -> bool
                 ensures { result ≡ false → books.is_orphan x.new.book.state tx ≡ true }
             { !x.is_orphan(tx) },
         );
-        book.finish_abort(&self.board, pass, turn, e, prepared, appended)
+        book.finish_abort(&self.locks.board, pass, turn, e, prepared, appended)
     }
 
     /// Finishes what was begun, and wakes those who wait for it.
@@ -249,9 +251,9 @@ impl<J: Naming, B: Backend, S: Store + Drop> Control<J, B, S> {
         ensures legal { IsLegal (front pass.new.seat) }
     {
         let finished = self.schedule_abort(rt, pass, turn, e, prepared, appended);
-        self.settled.notify_all();
+        self.locks.settled.notify_all();
         if finished.is_err() {
-            self.turn_back.notify_one();
+            self.locks.turn_back.notify_one();
         }
         finished
     }
@@ -280,7 +282,7 @@ impl<J: Naming, B: Backend, S: Store + Drop> Control<J, B, S> {
         match finished {
             Ok(open) => {
                 let number = open.number;
-                self.carry_out(rt, pass, open, &copy);
+                self.locks.carry_out(rt, pass, open, &copy);
                 Ok(number)
             }
             Err(error) => Err(refusal_of(error)),
@@ -303,11 +305,11 @@ impl<J: Naming, B: Backend, S: Store + Drop> Control<J, B, S> {
         match begun {
             Ok(Some(begun)) => self.carry_out_abort(rt, pass, begun),
             Ok(None) => {
-                self.turn_back.notify_one();
+                self.locks.turn_back.notify_one();
                 Err(AdminError::NotOrphan(tx))
             }
             Err(error) => {
-                self.turn_back.notify_one();
+                self.locks.turn_back.notify_one();
                 Err(refusal_of(error))
             }
         }

@@ -1,6 +1,6 @@
 //! The book behind its lock.
 
-ghost use Rattle.std.specs.Prelude.{◌≡◌, ◌-◌, ◌<◌, IfOk, IfErr, OnErr, ◌&&◌, not, ℕ, Bool, true, false, length, None, Some, IsNone, is_none, Contains};
+ghost use Rattle.std.specs.Prelude.{◌≡◌, ◌-◌, ◌<◌, IfOk, IfErr, OnErr, ◌&&◌, not, ℕ, Bool, true, false, length, None, Some, is_none, Contains};
 ghost use Rattle.cj_model.specs.Cluster.Masks.{in_mask};
 ghost use Rattle.cj_cluster.specs.History.Freshness.{IsFreshCache};
 ghost use Rattle.cj_cluster.specs.History.Histories.{is_enabled, is_free, log};
@@ -12,18 +12,17 @@ ghost use Rattle.cj_book.specs.BookLogs.{LogFollows};
 ghost use Rattle.cj_book.specs.Seated.{GivesOwnPassesOnly};
 ghost use Rattle.cj_tally.specs.Tallies.{IsTallyOf};
 ghost use Rattle.cj_locked.specs.Locked.{LastIsNoted};
-ghost use Rattle.cj_locked.specs.Passes.{HasNotedMore, HasSeenMore};
-ghost use Rattle.cj_locked.specs.Taking.{NotesTally};
+ghost use Rattle.cj_pass.specs.Passes.{HasNotedMore, HasSeenMore};
+ghost use Rattle.cj_locked_cell.specs.Taking.{NotesTally};
 ghost use Rattle.cj_locked.specs.Turns.{refusal_weight, turn_events_of};
 ghost use Rattle.cj_locked.specs.Writing.{BeginsSince, EndsSince, HoldsAppended, HoldsEntry, RefusesSince, SchedulesSince, SettlesTally};
 
-use crate::naming::{Naming, TurnLedger};
-use crate::pass::{NamedBoard, Pass};
-use crate::turn::Turn;
+use crate::turn::{Turn, TurnLedger};
 use cj_book::{BegunEntry, Book, BookError, Prepared};
 use cj_log::{LogError, LogItem};
 use cj_model::{Entry, Reply};
 use cj_outside::Store;
+use cj_pass::{NamedBoard, Naming, Pass};
 use cj_tally::Tally;
 use std::marker::{Model, PhantomData};
 use std::sync::ledger;

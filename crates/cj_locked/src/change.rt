@@ -1,18 +1,17 @@
 //! Events at the book that are no entries.
 
-ghost use Rattle.std.specs.Prelude.{ℕ, ◌≡◌, ◌==◌, ◌<◌, ◌&&◌, not, Bool, true, false, length, Contains, is_none};
+ghost use Rattle.std.specs.Prelude.{◌≡◌, ◌==◌, ◌<◌, ◌&&◌, not, true, false, length, Contains, is_none};
 ghost use Rattle.cj_cluster.specs.declared.event.Event.{Event};
 ghost use Rattle.cj_cluster.specs.History.Histories.{is_enabled, log};
 ghost use Rattle.cj_cluster.specs.History.Legality.{IsLegal};
 ghost use Rattle.cj_board.specs.Seats.{front, pass_view};
 ghost use Rattle.cj_locked.specs.Changes.{BringsAt, BringsSince};
-ghost use Rattle.cj_locked.specs.Passes.{HasNotedMore};
+ghost use Rattle.cj_pass.specs.Passes.{HasNotedMore};
 
 use crate::book::LockedBook;
-use crate::naming::Naming;
-use crate::pass::{NamedBoard, Pass};
 use cj_book::BookError;
 use cj_outside::Store;
+use cj_pass::{NamedBoard, Naming, Pass};
 
 impl<J: Naming, S: Store + Drop> LockedBook<J, S> {
     /// Disables a backend, while nobody has the turn. False if it is disabled already.

@@ -8,14 +8,13 @@ ghost use Rattle.cj_cluster.specs.History.Histories.{is_enabled, is_free, log};
 ghost use Rattle.cj_cluster.specs.History.Legality.{IsLegal};
 ghost use Rattle.cj_board.specs.Seats.{front, pass_view};
 ghost use Rattle.cj_locked.specs.Auditing.{HoldsTurn, IsHeldOver};
-ghost use Rattle.cj_locked.specs.Passes.{HasNotedMore};
+ghost use Rattle.cj_pass.specs.Passes.{HasNotedMore};
 ghost use Rattle.cj_locked.specs.Turns.{turn_amount};
 
 use crate::book::LockedBook;
-use crate::naming::Naming;
-use crate::pass::{NamedBoard, Pass};
 use crate::turn::Turn;
 use cj_outside::Store;
+use cj_pass::{NamedBoard, Naming, Pass};
 
 /// The turn, and what stays while it is held: no entry is open.
 #[derive(Drop)]

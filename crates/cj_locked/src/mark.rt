@@ -5,16 +5,15 @@ ghost use Rattle.cj_cluster.specs.History.Histories.{has_marker};
 ghost use Rattle.cj_cluster.specs.History.Legality.{IsLegal};
 ghost use Rattle.cj_board.specs.Seats.{front, pass_view};
 ghost use Rattle.cj_locked.specs.Marking.{BeginsMarkSince, HoldsMarked, MarksAt, MarksSince, RefusesMark};
-ghost use Rattle.cj_locked.specs.Passes.{HasNotedMore};
+ghost use Rattle.cj_pass.specs.Passes.{HasNotedMore};
 
 use crate::book::{LockedBook, refusal_weight};
-use crate::naming::Naming;
-use crate::pass::{NamedBoard, Pass};
 use crate::turn::Turn;
 use cj_book::BookError;
 use cj_log::{LogError, LogItem};
 use cj_model::Name;
 use cj_outside::Store;
+use cj_pass::{NamedBoard, Naming, Pass};
 
 /// What the writer of a marker has while the marker is on its way into the recovery log.
 #[derive(Drop)]

@@ -8,17 +8,16 @@ ghost use Rattle.cj_board.specs.Seats.{front, pass_view};
 ghost use Rattle.cj_book.specs.Books as books;
 ghost use Rattle.cj_place.specs.Layouts.{placement_of};
 ghost use Rattle.cj_locked.specs.Orphans.{abort_entry_of, BeginsAbortSince, IsAbortOf, RefusesAbort, RefusesAppendedSince, SchedulesAbortSince};
-ghost use Rattle.cj_locked.specs.Passes.{HasNotedMore};
+ghost use Rattle.cj_pass.specs.Passes.{HasNotedMore};
 ghost use Rattle.cj_locked.specs.Writing.{HoldsAppended, HoldsEntry};
 
 use crate::book::{Begun, LockedBook, OpenEntry, refusal_weight};
-use crate::naming::Naming;
-use crate::pass::{NamedBoard, Pass};
 use crate::turn::Turn;
 use cj_book::{BegunEntry, BookError, Counter, Prepared};
 use cj_log::LogError;
 use cj_model::{Act, Duplicate, Entry, NoMemory};
 use cj_outside::Store;
+use cj_pass::{NamedBoard, Naming, Pass};
 use std::alloc::Global;
 
 /// What the administrator has while the entry that ends an orphan is on its way into the recovery log.

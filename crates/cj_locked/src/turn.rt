@@ -13,11 +13,23 @@ ghost use Rattle.cj_book.specs.BookLogs.{LogFollows};
 ghost use Rattle.cj_locked.specs.Marking.{FollowsMarker};
 ghost use Rattle.cj_locked.specs.Writing.{FollowsAppend};
 
-use crate::naming::{Naming, TurnLedger};
 use cj_book::BookLog;
 use cj_log::{LogError, LogItem};
 use cj_outside::Store;
-use std::sync::ledger::{Book, Share};
+use cj_pass::Naming;
+use std::marker::PhantomData;
+use std::sync::ledger::{Book, Ledger, Share};
+
+/// The ledger of the turn. It has one part, so whoever has the turn has the whole.
+pub struct TurnLedger<J: Naming> {
+    of: PhantomData<J>,
+}
+
+impl<J: Naming> Ledger for TurnLedger<J> {
+    ghost name = { J.turn };
+
+    ghost parts = { 1 };
+}
 
 /// The turn, of which there is one. Who has it has the recovery log too, so an append to that needs no lock.
 ///

@@ -1,5 +1,4 @@
 use Rattle.std.proofs.Common.{◌≡◌, ◌+◌, ◌≤◌, length, ap, sym, ◌∙◌, subst, arith}
-use Rattle.cj_model.specs.declared.answer.Reply.{Reply}
 use Rattle.cj_model.specs.declared.request.Entry.{Entry}
 use Rattle.cj_model.specs.Sql.PlainRequests.{request_of}
 use Rattle.cj_cluster.specs.History.Histories.{log}
@@ -9,7 +8,7 @@ use Rattle.cj_desk.specs.DeskStates.{next_call, turn_taken, DeskSteps, IsEntryNu
 use Rattle.cj_locked.specs.Writing.{AreUpTo, WritesTurn}
 use Rattle.cj_place.specs.Layouts.{placement_of}
 use Rattle.cj_control.specs.Callers.{desk_at}
-use Rattle.cj_control.specs.Writing.{least_after}
+use Rattle.cj_locks.specs.Writing.{least_after}
 use Rattle.cj_control.proofs.Callers.{owes_after, starved_counted, starved_turn, write_made, write_number, write_tx}
 use Rattle.cj_control.proofs.caller.CallerDesk.write.Goals as goal
 

@@ -2,7 +2,7 @@ use Rattle.std.proofs.Common.{◌≡◌, subst, sym}
 use Rattle.cj_cluster.proofs.Pushed.{prefix_trans}
 use Rattle.cj_board.specs.Counting.{event_count_of}
 use Rattle.cj_board.specs.Seats.{front, pass_view}
-use Rattle.cj_locked.proofs.Passes.{noted_same, noted_then}
+use Rattle.cj_pass.proofs.Passes.{noted_same, noted_then}
 use Rattle.cj_control.proofs.control.Control.caller.Goals as goal
 
 pub returns-in-Ok-clause-new : goal.returns-in-Ok-clause-new

@@ -1,7 +1,7 @@
 use Rattle.std.proofs.Common.{None}
 use Rattle.cj_board.specs.Seats.{front, pass_view}
 use Rattle.cj_locked.proofs.Marking.{marked_now}
-use Rattle.cj_locked.proofs.Passes.{noted_then}
+use Rattle.cj_pass.proofs.Passes.{noted_then}
 use Rattle.cj_control.proofs.Administering.{marked_checks, not_begun}
 use Rattle.cj_control.proofs.control.Control.checkpoint.Goals as goal
 

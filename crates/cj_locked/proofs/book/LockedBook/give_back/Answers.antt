@@ -7,7 +7,7 @@ use Rattle.cj_board.specs.Views.{pass_without_tokens}
 use Rattle.cj_book.specs.Books.{BookState}
 use Rattle.cj_locked.proofs.Ending.{same_counted}
 use Rattle.cj_locked.proofs.Holding.{given_back, held_over, held_since}
-use Rattle.cj_locked.proofs.Passes.{noted_joined}
+use Rattle.cj_pass.proofs.Passes.{noted_joined}
 use Rattle.cj_locked.proofs.Noting.{keeps_learning, still_noted}
 use Rattle.cj_locked.proofs.book.LockedBook.give_back.Goals as goal
 

@@ -8,7 +8,7 @@ use Rattle.cj_book.specs.Books.{BookState}
 use Rattle.cj_locked.specs.Locked.{IsVacant}
 use Rattle.cj_locked.proofs.Ending.{same_counted}
 use Rattle.cj_locked.proofs.Holding.{holds_turn}
-use Rattle.cj_locked.proofs.Passes.{noted_joined}
+use Rattle.cj_pass.proofs.Passes.{noted_joined}
 use Rattle.cj_locked.proofs.Noting.{keeps_learning, still_noted}
 use Rattle.cj_locked.proofs.book.LockedBook.hold.Goals as goal
 
