@@ -59,6 +59,12 @@ none_newer s h some legal none =
     let few : event_count_of s h ≤ event_count_of s [] = omega (arith, none) in
     (read_leaves s [] h some legal (h, refl) few).2 0 (All-nil (λ (d : Entry). d.session ≡ s → d.seq ≤ 0))
 
+-- and no open transaction
+pub no_transaction : (s : ℕ) (h : List Event) → 0 < s → IsLegal h → event_count_of s h ≡ 0 → tx_of (log h) s ≡ 0
+no_transaction s h some legal none =
+    let few : event_count_of s h ≤ event_count_of s [] = omega (arith, none) in
+    (read_leaves s [] h some legal (h, refl) few).0
+
 -- ---- the session's next entry
 
 module _ (F : List Event) (s queries tx : ℕ) (user : List ℕ) (act : Act) (own : (0 < s) × (s ≤ SESSION_NUMBER_LIMIT)) (newer : AreUpTo s queries (log F)) (room : queries < REQUEST_LIMIT) (fits : FitsTx (tx_of (log F) s) tx act) where

@@ -18,6 +18,7 @@ use crate::control::Control;
 use cj_backend::Backend;
 use cj_book::OwnError;
 use cj_desk::{Desk, Written};
+use cj_locks::Query;
 use cj_model::{Act, Duplicate, Entry, NO_MEMORY, NoMemory, Refusal, Reply, Select, Text};
 use cj_outside::Store;
 use cj_pass::{Naming, Pass};
