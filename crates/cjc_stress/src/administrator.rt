@@ -1,37 +1,15 @@
-//! The administrator: ends orphans, sets checkpoints, audits, and seldom disables a backend.
-
-ghost use Rattle.std.specs.Prelude.{◌<◌, ◌≤◌, length};
+//! The administrator: ends orphans, sets checkpoints, audits, and disables a backend.
 
 use crate::lines::Lines;
+use crate::worker::{Stage, Worker};
 use cj_backend::Backend;
-use cj_control::{AdminError, Control};
-use cj_locked::{Naming, Pass};
+use cj_control::{AdminError, Naming};
 use cj_model::{Name, NoMemory, Text};
-use cj_outside::{Draw, PcgDraw, Store};
-use std::alloc::Global;
-use std::sync::{Mutex, Wait};
+use cj_outside::{Draw, Store};
+use std::sync::Wait;
 
-/// In one of so many rounds a backend is disabled.
-const SELDOM: u64 = 500;
-
-/// Transactions that were left open, by their numbers.
-pub type Orphans = Mutex<Vec<u64>>;
-
-/// Takes the last of the orphans.
-fn next_orphan<R: Wait>(rt: &R, orphans: &Orphans) -> Option<u64> {
-    orphans.lock(rt).pop()
-}
-
-fn tell_count(lines: &mut Lines, told: Result<u64, AdminError>) -> Result<(), NoMemory> {
-    match told {
-        Ok(number) => {
-            lines.add(" ok")?;
-            lines.add_number(number)?;
-        }
-        Err(error) => tell_error(lines, error)?,
-    }
-    lines.add("\n")
-}
+/// In this round a backend is disabled.
+const DISABLES: u64 = 24;
 
 fn tell_error(lines: &mut Lines, error: AdminError) -> Result<(), NoMemory> {
     match error {
@@ -51,120 +29,132 @@ fn tell_error(lines: &mut Lines, error: AdminError) -> Result<(), NoMemory> {
     }
 }
 
-/// Ends a transaction, and tells what came of it.
-fn abort<J: Naming, B: Backend, S: Store + Drop, R: Wait>(
-    rt: &R,
-    control: &Control<J, B, S>,
-    pass: &mut Pass<J>,
-    tx: u64,
+/// Tells under a word what came of a call with this number, and ends the line.
+fn tell(
     lines: &mut Lines,
+    word: &str,
+    number: u64,
+    told: Result<u64, AdminError>,
 ) -> Result<(), NoMemory> {
-    let told = control.abort_orphan(rt, pass, tx);
-    lines.add("abort")?;
-    lines.add_number(tx)?;
-    tell_count(lines, told)
+    lines.add(word)?;
+    lines.add_number(number)?;
+    match told {
+        Ok(entry) => {
+            lines.add(" ok")?;
+            lines.add_number(entry)?;
+        }
+        Err(error) => tell_error(lines, error)?,
+    }
+    lines.end()
+}
+
+/// Ends a transaction, and tells what came of it.
+fn abort<J: Naming, B: Backend + Drop, S: Store + Drop, R: Wait>(
+    rt: &R,
+    stage: &Stage<'_, J, B, S>,
+    worker: &mut Worker<J>,
+    tx: u64,
+) -> Result<(), NoMemory> {
+    let told = stage.control.abort_orphan(rt, &mut worker.pass, tx);
+    tell(&mut worker.lines, "abort", tx, told)
 }
 
 /// Ends all transactions that were left open so far.
-pub fn abort_all<J: Naming, B: Backend, S: Store + Drop, R: Wait>(
+fn abort_all<J: Naming, B: Backend + Drop, S: Store + Drop, R: Wait>(
     rt: &R,
-    control: &Control<J, B, S>,
-    pass: &mut Pass<J>,
-    orphans: &Orphans,
-    lines: &mut Lines,
+    stage: &Stage<'_, J, B, S>,
+    worker: &mut Worker<J>,
 ) -> Result<(), NoMemory> {
     for _ in 0..u64::MAX {
-        let Some(tx) = next_orphan(rt, orphans) else {
+        let Some(tx) = stage.next_orphan(rt) else {
             break;
         };
-        abort(rt, control, pass, tx, lines)?;
+        abort(rt, stage, worker, tx)?;
     }
     Ok(())
 }
 
-/// Sets a checkpoint, and tells what came of it.
-fn checkpoint<J: Naming, B: Backend, S: Store + Drop, R: Wait>(
+/// Sets a checkpoint with a name of this number, and tells what came of it.
+fn checkpoint<J: Naming, B: Backend + Drop, S: Store + Drop, R: Wait>(
     rt: &R,
-    alloc: Global,
-    control: &Control<J, B, S>,
-    pass: &mut Pass<J>,
+    stage: &Stage<'_, J, B, S>,
+    worker: &mut Worker<J>,
     number: u64,
-    lines: &mut Lines,
 ) -> Result<(), NoMemory> {
-    let text = format!(in alloc; "c{number}")?;
+    let text = format!(in stage.alloc; "c{number}")?;
     let name = match Name::of(text.as_bytes()) {
         Some(name) if !name.as_slice().is_empty() => name,
         _ => return Ok(()),
     };
-    let told = control.checkpoint(rt, pass, &name);
-    lines.add("checkpoint")?;
-    lines.add_number(number)?;
-    tell_count(lines, told)
+    let told = stage.control.checkpoint(rt, &mut worker.pass, &name);
+    tell(&mut worker.lines, "checkpoint", number, told)
 }
 
-/// Disables a backend, and tells what came of it.
-fn disable<J: Naming, B: Backend, S: Store + Drop, R: Wait>(
+/// Disables a backend but the first, and tells what came of it.
+fn disable<J: Naming, B: Backend + Drop, S: Store + Drop, R: Wait>(
     rt: &R,
-    control: &Control<J, B, S>,
-    pass: &mut Pass<J>,
-    b: u8,
-    lines: &mut Lines,
-) -> Result<(), NoMemory>
-    requires { b < length J.layout.names }
-{
-    let told = control.disable(rt, pass, b);
-    lines.add("disable")?;
-    lines.add_number(b as u64)?;
-    match told {
-        Ok(()) => lines.add(" ok")?,
-        Err(error) => tell_error(lines, error)?,
+    stage: &Stage<'_, J, B, S>,
+    worker: &mut Worker<J>,
+) -> Result<(), NoMemory> {
+    let b = worker.draw.below(3) as u8 + 1;
+    if b >= stage.control.placement().count() {
+        return Ok(());
     }
-    lines.add("\n")
+    let told = match stage.control.disable(rt, &mut worker.pass, b) {
+        Ok(()) => Ok(0),
+        Err(error) => Err(error),
+    };
+    tell(&mut worker.lines, "disable", b as u64, told)
 }
 
 /// Audits, and tells the text under this word.
-pub fn audit<J: Naming, B: Backend, S: Store + Drop, R: Wait>(
+pub fn audit<J: Naming, B: Backend + Drop, S: Store + Drop, R: Wait>(
     rt: &R,
-    control: &Control<J, B, S>,
-    pass: &mut Pass<J>,
+    stage: &Stage<'_, J, B, S>,
+    worker: &mut Worker<J>,
     word: &str,
-    lines: &mut Lines,
 ) -> Result<(), NoMemory> {
-    let told = control.audit(rt, pass);
-    lines.add(word)?;
+    let told = stage.control.audit(rt, &mut worker.pass);
+    worker.lines.add(word)?;
     match told {
         Ok(text) => {
-            lines.add(" ok")?;
-            lines.add_bytes(Text::as_slice(&text))?;
+            worker.lines.add(" ok")?;
+            worker.lines.add_bytes(Text::as_slice(&text))?;
         }
-        Err(error) => tell_error(lines, error)?,
+        Err(error) => tell_error(&mut worker.lines, error)?,
     }
-    lines.add("\n")
+    worker.lines.end()
 }
 
-/// One round of the administrator. Each of these many backends but the first may be disabled.
-pub fn administer<J: Naming, B: Backend, S: Store + Drop, R: Wait>(
+/// Does one thing besides ending orphans, by chance.
+fn do_drawn<J: Naming, B: Backend + Drop, S: Store + Drop, R: Wait>(
     rt: &R,
-    alloc: Global,
-    control: &Control<J, B, S>,
-    pass: &mut Pass<J>,
-    orphans: &Orphans,
-    backends: u8,
-    draw: &mut PcgDraw,
-    lines: &mut Lines,
-) -> Result<(), NoMemory>
-    requires { backends ≤ length J.layout.names }
-{
-    abort_all(rt, control, pass, orphans, lines)?;
-    match draw.below(8) {
-        0 => abort(rt, control, pass, draw.below(1000), lines)?,
-        1 | 2 => checkpoint(rt, alloc, control, pass, draw.below(100000), lines)?,
-        3 | 4 => audit(rt, control, pass, "audit", lines)?,
-        _ => {}
+    stage: &Stage<'_, J, B, S>,
+    worker: &mut Worker<J>,
+) -> Result<(), NoMemory> {
+    match worker.draw.below(8) {
+        0 => {
+            let tx = worker.draw.below(1000);
+            abort(rt, stage, worker, tx)
+        }
+        1 | 2 => {
+            let number = worker.draw.below(100000);
+            checkpoint(rt, stage, worker, number)
+        }
+        3 | 4 => audit(rt, stage, worker, "audit"),
+        _ => Ok(()),
     }
-    let b = draw.below(SELDOM);
-    if b == 0 || b >= backends as u64 {
-        return Ok(());
+}
+
+/// One round of the administrator.
+pub fn administer<J: Naming, B: Backend + Drop, S: Store + Drop, R: Wait>(
+    rt: &R,
+    stage: &Stage<'_, J, B, S>,
+    worker: &mut Worker<J>,
+) -> Result<(), NoMemory> {
+    abort_all(rt, stage, worker)?;
+    if worker.rounds == DISABLES {
+        return disable(rt, stage, worker);
     }
-    disable(rt, control, pass, b as u8, lines)
+    do_drawn(rt, stage, worker)
 }

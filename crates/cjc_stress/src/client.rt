@@ -1,26 +1,21 @@
-//! Clients: sessions one after another, each served over what it sends.
+//! Clients: sessions one after another, each served over what its client sends.
 
 ghost use Rattle.std.specs.Prelude.{◌≡◌, ◌≤◌, ◌^◌, length, IfOk, IfSome};
 ghost use Rattle.cj_model.specs.declared.limits.TheConstants.{USER_LIMIT};
-ghost use Rattle.cj_model.specs.declared.request.Act.TheVariants as acts;
-ghost use Rattle.cj_model.specs.declared.write.Write.{Write};
 ghost use Rattle.cj_desk.specs.DeskStates.{desk_tx};
 
 use crate::lines::Lines;
-use crate::statements::{drawn_session, session_of};
+use crate::statements::{drawn_session, drawn_update, session_of, tables};
+use crate::worker::{Stage, Worker};
 use cj_backend::Backend;
-use cj_control::{Caller, Control};
+use cj_control::Naming;
 use cj_desk::{Desk, Written};
-use cj_locked::{Naming, Pass};
 use cj_model::{Act, NoMemory, Reply, Request, Text, USER_LIMIT};
 use cj_outside::{FixedClock, MemSink, MemSource, PcgDraw, Store};
 use cj_session::serve_session;
 use cj_sql::read;
 use std::alloc::Global;
 use std::sync::Wait;
-
-/// The number of statements of a session.
-const STATEMENTS: u64 = 40;
 
 /// Serves a session over the bytes that its client sends, and returns what it was sent.
 pub fn served<R, K: Desk<R>>(rt: &R, alloc: Global, desk: &mut K, sent: Vec<u8>) -> MemSink
@@ -35,61 +30,57 @@ pub fn served<R, K: Desk<R>>(rt: &R, alloc: Global, desk: &mut K, sent: Vec<u8>)
     sink
 }
 
-/// Opens a session with random statements, serves it, and tells what it sent and was sent.
-pub fn serve_one<J: Naming, B: Backend, S: Store + Drop, R: Wait>(
+/// Opens a session, serves it over what its client sends, and tells both sides under a word.
+fn serve<J: Naming, B: Backend, S: Store + Drop, R: Wait>(
     rt: &R,
-    alloc: Global,
-    control: &Control<J, B, S>,
-    pass: &mut Pass<J>,
-    draw: &mut PcgDraw,
-    lines: &mut Lines,
+    stage: &Stage<'_, J, B, S>,
+    worker: &mut Worker<J>,
+    word: &str,
+    sent: Vec<u8>,
 ) -> Result<(), NoMemory> {
-    let sent = drawn_session(alloc, draw, STATEMENTS)?;
-    let Ok(mut caller) = control.caller(rt, pass) else {
+    let Ok(mut caller) = stage.control.caller(rt, &mut worker.pass) else {
         return Ok(());
     };
-    lines.add("session")?;
-    lines.add_number(Desk::<R>::session(&caller))?;
-    lines.add_bytes(&sent)?;
-    let sink = served(rt, alloc, &mut caller, sent);
-    control.leave(rt, caller, pass);
-    lines.add_bytes(sink.content())?;
-    lines.add("\n")
+    worker.lines.add(word)?;
+    worker.lines.add_number(Desk::<R>::session(&caller))?;
+    worker.lines.add_bytes(&sent)?;
+    let sink = served(rt, stage.alloc, &mut caller, sent);
+    stage.control.leave(rt, caller, &mut worker.pass);
+    worker.lines.add_bytes(sink.content())?;
+    worker.lines.end()
 }
 
-/// Reads by a session, and tells it as a request of session 0.
-fn read_by<J: Naming, B: Backend, S: Store + Drop, R: Wait>(
+/// Serves the session that makes the tables.
+pub fn create_tables<J: Naming, B: Backend, S: Store + Drop, R: Wait>(
     rt: &R,
-    alloc: Global,
-    caller: &mut Caller<'_, J, B, S>,
-    text: &str,
-    lines: &mut Lines,
+    stage: &Stage<'_, J, B, S>,
+    worker: &mut Worker<J>,
 ) -> Result<(), NoMemory> {
-    let sent = session_of(alloc, text)?;
-    lines.add("planted 0")?;
-    lines.add_bytes(&sent)?;
-    let sink = served(rt, alloc, caller, sent);
-    lines.add_bytes(sink.content())?;
-    lines.add("\n")
+    let sent = tables(stage.alloc)?;
+    serve(rt, stage, worker, "session", sent)
 }
 
-/// Two requests of a client that reads by several sessions in turn, so that the second may read what is older than it
-/// was answered first. Two texts ask the same, so that the cache does not answer the second.
-pub fn read_planted<J: Naming, B: Backend, S: Store + Drop, R: Wait>(
+/// Serves a session with random statements.
+pub fn serve_drawn<J: Naming, B: Backend, S: Store + Drop, R: Wait>(
     rt: &R,
-    alloc: Global,
-    control: &Control<J, B, S>,
-    pass: &mut Pass<J>,
-    lines: &mut Lines,
+    stage: &Stage<'_, J, B, S>,
+    worker: &mut Worker<J>,
 ) -> Result<(), NoMemory> {
-    let (Ok(mut one), Ok(mut other)) = (control.caller(rt, pass), control.caller(rt, pass)) else {
-        return Ok(());
-    };
-    read_by(rt, alloc, &mut one, "SELECT * FROM t0", lines)?;
-    read_by(rt, alloc, &mut other, "SELECT k, v FROM t0", lines)?;
-    control.leave(rt, one, pass);
-    control.leave(rt, other, pass);
-    Ok(())
+    let sent = drawn_session(stage.alloc, &mut worker.draw)?;
+    serve(rt, stage, worker, "session", sent)
+}
+
+/// Serves two reads of a client, each by a session of its own. So the second may read what is older than what the first
+/// read. Their texts differ, so that the cache does not answer the second with the rows of the first.
+pub fn serve_mixed<J: Naming, B: Backend, S: Store + Drop, R: Wait>(
+    rt: &R,
+    stage: &Stage<'_, J, B, S>,
+    worker: &mut Worker<J>,
+) -> Result<(), NoMemory> {
+    let first = session_of(stage.alloc, "SELECT * FROM t2")?;
+    serve(rt, stage, worker, "mixed", first)?;
+    let second = session_of(stage.alloc, "SELECT k, v FROM t2")?;
+    serve(rt, stage, worker, "mixed", second)
 }
 
 /// The user of all sessions.
@@ -102,11 +93,20 @@ fn user(alloc: Global) -> Result<Option<Text>, NoMemory>
     }
 }
 
-/// The act that the text of a statement is, if it is one of these that write.
-fn written(alloc: Global, text: &str) -> Option<Act> {
-    match read(alloc, text.as_bytes()) {
-        Ok(Request::Write(write)) => Some(Act::Write(write)),
-        _ => None,
+/// Tells a reply that has no rows.
+fn tell_reply(lines: &mut Lines, reply: &Reply) -> Result<(), NoMemory> {
+    match reply {
+        Reply::Done(count) => {
+            lines.add(" done")?;
+            lines.add_number(*count)
+        }
+        Reply::Refused(refusal) => {
+            lines.add(" refused")?;
+            lines.add_number(refusal.code as u64)?;
+            lines.add_number(refusal.a)?;
+            lines.add_number(refusal.b)
+        }
+        Reply::Rows(_) | Reply::Stats(_, _) => lines.add(" else"),
     }
 }
 
@@ -120,46 +120,34 @@ fn tell_write(
     lines.add("write")?;
     lines.add_number(session)?;
     lines.add_number(written.number)?;
-    match &written.reply {
-        Reply::Done(count) => {
-            lines.add(" done")?;
-            lines.add_number(*count)?;
-        }
-        Reply::Refused(refusal) => {
-            lines.add(" refused")?;
-            lines.add_number(refusal.code as u64)?;
-            lines.add_number(refusal.a)?;
-            lines.add_number(refusal.b)?;
-        }
-        Reply::Rows(_) | Reply::Stats(_, _) => lines.add(" else")?,
-    }
+    tell_reply(lines, &written.reply)?;
     lines.add_bytes(statement.as_bytes())?;
-    lines.add("\n")
+    lines.end()
 }
 
-/// Opens a session that begins a transaction, changes a table in it, and leaves. Returns the transaction's number, 0 if
-/// none was begun.
+/// Opens a session that begins a transaction, changes a table in it, and leaves. The transaction is left open, for the
+/// administrator to end.
 pub fn leave_orphan<J: Naming, B: Backend, S: Store + Drop, R: Wait>(
     rt: &R,
-    alloc: Global,
-    control: &Control<J, B, S>,
-    pass: &mut Pass<J>,
-    statement: &str,
-    lines: &mut Lines,
-) -> Result<u64, NoMemory> {
-    let (Some(user), Some(act)) = (user(alloc)?, written(alloc, statement)) else {
-        return Ok(0);
+    stage: &Stage<'_, J, B, S>,
+    worker: &mut Worker<J>,
+) -> Result<(), NoMemory> {
+    let text = drawn_update(stage.alloc, &mut worker.draw)?;
+    let (Some(user), Ok(Request::Write(write))) =
+        (user(stage.alloc)?, read(stage.alloc, text.as_bytes()))
+    else {
+        return Ok(());
     };
-    let Ok(mut caller) = control.caller(rt, pass) else {
-        return Ok(0);
+    let Ok(mut caller) = stage.control.caller(rt, &mut worker.pass) else {
+        return Ok(());
     };
     let session = Desk::<R>::session(&caller);
     let begun = caller.write(rt, &user, 0, Act::Begin);
-    tell_write(lines, session, "BEGIN", &begun)?;
+    tell_write(&mut worker.lines, session, "BEGIN", &begun)?;
     if begun.number > 0 {
-        let changed = caller.write(rt, &user, begun.number, act);
-        tell_write(lines, session, statement, &changed)?;
+        let changed = caller.write(rt, &user, begun.number, Act::Write(write));
+        tell_write(&mut worker.lines, session, text.as_str(), &changed)?;
     }
-    control.leave(rt, caller, pass);
-    Ok(begun.number)
+    stage.control.leave(rt, caller, &mut worker.pass);
+    stage.add_orphan(rt, begun.number)
 }

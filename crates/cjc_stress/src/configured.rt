@@ -7,7 +7,7 @@ ghost use Rattle.cj_flaky.specs.FlakyBackends.{fresh_over};
 ghost use Rattle.cj_mem.specs.MemoryBackends.{fresh_state};
 
 use crate::gate::Slow;
-use crate::tasks::{Placed, Plan};
+use crate::tasks::{Placed, Plan, Wrong};
 use cj_balance::Balancer;
 use cj_book::BookParts;
 use cj_cache::Cache;
@@ -18,20 +18,22 @@ use cj_mem::MemBackend;
 use cj_model::{ListOf, NoMemory};
 use cj_outside::{Draw, PcgDraw};
 use std::alloc::Global;
+use std::time::Clock;
 
-/// A backend that fails in some calls, and whose writes take time.
-pub type Tried = Gated<Flaky<MemBackend>, Slow>;
+/// A backend that fails in some calls, and whose calls take time.
+pub type Tried<R> = Gated<Flaky<MemBackend>, Slow<R>>;
 
-/// So many steps each write of a backend takes. With a planted fault they are more, so that it shows at once.
-const STEPS: u32 = 20000;
+/// So many microseconds each write of a backend takes.
+const WRITE: u64 = 40;
 
-const STEPS_PLANTED: u32 = 200000;
+/// So many microseconds each query of `b1` takes where a fault is planted. An entry reaches `b0` before `b1`, and `b2`
+/// after it, so what these two hold of a table differs for that time.
+const LAG: u64 = 4000;
 
 /// A backend that fails does so in so many calls of the first `LAST`.
+const FAILS: u64 = 3;
 
-const FAILS: u64 = 6;
-
-const LAST: u64 = 30000;
+const LAST: u64 = 4000;
 
 const EVERYWHERE: &[u8] = b"level = \"raidb1\"
 cache = 8
@@ -127,22 +129,32 @@ fn drawn_fails(alloc: Global, draw: &mut PcgDraw) -> Result<ListOf<u64>, NoMemor
     Ok(fails)
 }
 
+/// Makes the gate of backend `b`.
+fn slow<R: Clock + Copy>(clock: R, plan: Plan, b: u8) -> Slow<R> {
+    let lags = plan.wrong == Wrong::Client && b == 1;
+    Slow::new(clock, if lags { LAG } else { 0 }, WRITE)
+}
+
 /// Makes so many empty backends. If some calls fail, those of the first backend do not.
-pub fn tried_backends(alloc: Global, count: u8, plan: Plan) -> Result<Backends<Tried>, NoMemory>
+pub fn tried_backends<R: Clock + Copy>(
+    clock: R,
+    alloc: Global,
+    count: u8,
+    plan: Plan,
+) -> Result<Backends<Tried<R>>, NoMemory>
     ensures count { IfOk result (λ backends. length backends ≡ count) }
     ensures fresh { IfOk result (All (λ b. b.inner ≡ fresh_over fresh_state b.inner.fails)) }
 {
     let mut draw = PcgDraw::new(plan.seed);
     let mut backends = Backends::new(alloc);
-    let steps = if plan.plants { STEPS_PLANTED } else { STEPS };
     for b in 0..count {
-        let listed = if plan.fails && b > 0 {
+        let listed = if plan.wrong == Wrong::Backends && b > 0 {
             drawn_fails(alloc, &mut draw)?
         } else {
             ListOf::new(alloc)
         };
         let flaky = Flaky::new(MemBackend::new(alloc), listed);
-        backends.push(Gated::new(flaky, Slow::new(steps)))?;
+        backends.push(Gated::new(flaky, slow(clock, plan, b)))?;
     }
     Ok(backends)
 }

@@ -1,27 +1,40 @@
-//! A gate that takes time, so that other threads come between the backends of one entry.
+//! A gate that takes time, so that other threads come while a backend is called.
 
 use cj_flaky::Gate;
+use std::thread;
+use std::time::{Clock, Duration};
 
-/// A gate at which each write takes so many steps.
+/// A gate at which each query and each write sleeps for so many microseconds.
 #[derive(Drop)]
-pub struct Slow {
-    steps: u32,
-    /// What the steps compute, which nothing reads. It is kept so that they are carried out.
-    state: u64,
+pub struct Slow<R: Clock + Copy> {
+    clock: R,
+    query: u64,
+    write: u64,
 }
 
-impl Slow {
-    pub fn new(steps: u32) -> Slow {
-        Slow { steps, state: 1 }
+impl<R: Clock + Copy> Slow<R> {
+    pub fn new(clock: R, query: u64, write: u64) -> Slow<R> {
+        Slow {
+            clock,
+            query,
+            write,
+        }
     }
 }
 
-impl Gate for Slow {
-    fn pass(&mut self) {}
+/// Sleeps, if it is for some time.
+fn pause(clock: &impl Clock, micros: u64) {
+    if micros > 0 {
+        thread::sleep(clock, Duration::from_micros(micros));
+    }
+}
+
+impl<R: Clock + Copy> Gate for Slow<R> {
+    fn pass(&mut self) {
+        pause(&self.clock, self.query);
+    }
 
     fn pass_write(&mut self) {
-        for _ in 0..self.steps {
-            self.state = self.state.wrapping_mul(6364136223846793005).wrapping_add(1);
-        }
+        pause(&self.clock, self.write);
     }
 }

@@ -41,6 +41,11 @@ impl Lines {
         self.add(text.as_str())
     }
 
+    /// Ends the line.
+    pub fn end(&mut self) -> Result<(), NoMemory> {
+        self.add("\n")
+    }
+
     /// Adds all lines of another thread.
     pub fn add_all(&mut self, other: Lines) -> Result<(), NoMemory> {
         self.text.extend_from_slice(&other.text)?;

@@ -14,9 +14,8 @@ use crate::started::started;
 use crate::statements::{append_query, login, session_of};
 use crate::tasks::{Kind, Measure};
 use cj_backend::Backend;
-use cj_control::Control;
+use cj_control::{Control, Naming, Pass};
 use cj_core::{Shared, World};
-use cj_locked::{Naming, Pass};
 use cj_mem::MemBackend;
 use cj_model::NoMemory;
 use cj_outside::{Draw, PcgDraw, Store};
@@ -196,7 +195,7 @@ fn jobs_of<J: Naming, B: Backend + Drop, S: Store + Drop>(
 }
 
 /// Tells how long the sessions took all together, and how many requests went on beside them.
-fn tell(alloc: Global, wall: u64, told: Vec<Option<(bool, u64)>>) -> Option<Vec<u8>> {
+fn tell(alloc: Global, wall: u64, told: Vec<Option<(bool, u64)>>) -> Option<Lines> {
     let mut lines = Lines::new(alloc);
     lines.add("all").ok()?;
     lines.add_number(wall).ok()?;
@@ -207,7 +206,7 @@ fn tell(alloc: Global, wall: u64, told: Vec<Option<(bool, u64)>>) -> Option<Vec<
         lines.add_number(number).ok()?;
         lines.add("\n").ok()?;
     }
-    Some(lines.into_text())
+    Some(lines)
 }
 
 fn run_all<
@@ -215,7 +214,7 @@ fn run_all<
     B: Backend + Drop + Send + Sync,
     S: Store + Drop + Send,
     R: Threads + Wait + Clock + Sync,
->(rt: &R, alloc: Global, shared: Shared<B, S>, blank: Blank, measure: Measure) -> Option<Vec<u8>>
+>(rt: &R, alloc: Global, shared: Shared<B, S>, blank: Blank, measure: Measure) -> Option<Lines>
     requires world { AreOfStarted B.tells S.tells S.faults (board_id shared.board) (pass_board shared.pass) shared.book shared.recovery_log shared.cells.items shared.accounts shared.dumps }
     requires board { board_id shared.board ≡ J.board }
     requires layout { shared.book.state.layout ≡ J.layout }
@@ -243,7 +242,7 @@ fn run_alone<S: Store + Drop, R: Clock>(
     alloc: Global,
     world: World<MemBackend, S>,
     measure: Measure,
-) -> Option<Vec<u8>>
+) -> Option<Lines>
     requires fresh { world.core.sessions ≡ [] }
     requires idle { is_free world.core.history ≡ true }
 {
@@ -268,7 +267,7 @@ pub fn bench<S: Store + Drop + Send, R: Threads + Wait + Clock + Sync>(
     alloc: Global,
     measure: Measure,
     log: S,
-) -> Option<Vec<u8>>
+) -> Option<Lines>
     requires { S.tells ≡ true → Only (S.held log) (S.may log) }
 {
     let conf = conf_of(alloc, measured(measure.cache))?;

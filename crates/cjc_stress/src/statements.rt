@@ -5,9 +5,12 @@ use cj_outside::{Draw, PcgDraw};
 use std::alloc::Global;
 
 /// So many tables there are, and so many keys are used in each.
-pub const TABLES: u64 = 4;
+const TABLES: u64 = 4;
 
 const KEYS: u64 = 24;
+
+/// So many statements a session has.
+const STATEMENTS: u64 = 40;
 
 /// The frame of Login of `ann`.
 const LOGIN: &[u8] = b"\x00\x00\x00\x0e\x01\x00\x03ann\x00\x06secret";
@@ -54,15 +57,28 @@ fn drawn_statement(alloc: Global, draw: &mut PcgDraw) -> Result<String, NoMemory
     Ok(text)
 }
 
-/// Draws the frames of a session: Login, and then so many statements.
-pub fn drawn_session(
-    alloc: Global,
-    draw: &mut PcgDraw,
-    statements: u64,
-) -> Result<Vec<u8>, NoMemory> {
+/// Draws a statement that changes a row.
+pub fn drawn_update(alloc: Global, draw: &mut PcgDraw) -> Result<String, NoMemory> {
+    let t = draw.below(TABLES);
+    let k = draw.below(KEYS);
+    Ok(format!(in alloc; "UPDATE t{t} SET v = v + 7 WHERE k = {k}")?)
+}
+
+/// Draws the frames of a session: Login, and then statements.
+pub fn drawn_session(alloc: Global, draw: &mut PcgDraw) -> Result<Vec<u8>, NoMemory> {
     let mut frames = login(alloc)?;
-    for _ in 0..statements {
+    for _ in 0..STATEMENTS {
         let text = drawn_statement(alloc, draw)?;
+        append_query(&mut frames, text.as_str())?;
+    }
+    Ok(frames)
+}
+
+/// The frames of a session that makes the tables.
+pub fn tables(alloc: Global) -> Result<Vec<u8>, NoMemory> {
+    let mut frames = login(alloc)?;
+    for t in 0..TABLES {
+        let text = format!(in alloc; "CREATE TABLE t{t} (k INTEGER PRIMARY KEY, v INTEGER)")?;
         append_query(&mut frames, text.as_str())?;
     }
     Ok(frames)

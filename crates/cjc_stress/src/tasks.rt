@@ -1,5 +1,10 @@
 //! What the words of the command ask for.
 
+/// What the words may be.
+pub const USAGE: &str = "usage: cjc_stress stress raidb1|raidb2 STARTS SECONDS SEED sound|faulty|planted
+       cjc_stress bench reads|writes|reads-beside-writes|reads-alone|writes-alone THREADS REQUESTS cache|no-cache
+";
+
 /// Which placement the cluster has.
 #[derive(Clone, Copy, PartialEq, Eq)]
 pub enum Placed {
@@ -9,17 +14,27 @@ pub enum Placed {
     InPart,
 }
 
+/// What is wrong in a trial.
+#[derive(Clone, Copy, PartialEq, Eq)]
+pub enum Wrong {
+    Nothing,
+    /// Some calls of the backends fail.
+    Backends,
+    /// A client reads by a new session each time, so that it may read what is older than it was answered. This is
+    /// planted: who looks at the replies has to find it.
+    Client,
+}
+
 /// What is tried.
 #[derive(Clone, Copy)]
 pub struct Plan {
     pub placed: Placed,
-    /// For so long sessions begin.
+    /// So often the cluster is started over its log.
+    pub starts: u64,
+    /// For so long sessions begin at each start.
     pub seconds: u64,
     pub seed: u64,
-    /// Whether some calls of the backends fail.
-    pub fails: bool,
-    /// Whether one client reads by other sessions in turn, so that it may read what is older than it was answered.
-    pub plants: bool,
+    pub wrong: Wrong,
 }
 
 /// What is measured.
@@ -29,7 +44,7 @@ pub struct Measure {
     pub threads: u64,
     /// So many requests of each thread.
     pub requests: u64,
-    /// The most answers that the result cache keeps.
+    /// Whether the result cache keeps answers.
     pub cache: bool,
 }
 
@@ -38,10 +53,10 @@ pub struct Measure {
 pub enum Kind {
     /// Reads by key, of each thread.
     Reads,
-    /// The same, while another thread writes without pause.
-    ReadsBesideWrites,
     /// Updates by key, of each thread.
     Writes,
+    /// Reads by key, of each thread, while another one writes without pause.
+    ReadsBesideWrites,
     /// Reads by key at a desk that shares nothing.
     ReadsAlone,
     /// Updates by key at a desk that shares nothing.
@@ -67,40 +82,50 @@ fn placed_of(word: &str) -> Option<Placed> {
     }
 }
 
+fn wrong_of(word: &str) -> Option<Wrong> {
+    match word {
+        "sound" => Some(Wrong::Nothing),
+        "faulty" => Some(Wrong::Backends),
+        "planted" => Some(Wrong::Client),
+        _ => None,
+    }
+}
+
 fn kind_of(word: &str) -> Option<Kind> {
     match word {
         "reads" => Some(Kind::Reads),
-        "reads-beside-writes" => Some(Kind::ReadsBesideWrites),
         "writes" => Some(Kind::Writes),
+        "reads-beside-writes" => Some(Kind::ReadsBesideWrites),
         "reads-alone" => Some(Kind::ReadsAlone),
         "writes-alone" => Some(Kind::WritesAlone),
         _ => None,
     }
 }
 
-/// The words of `stress`: placement, seconds and seed, and then `fails`, `plant` or nothing.
-fn plan_of(words: &[String]) -> Option<Plan> {
-    let [placed, seconds, seed, more @ ..] = words else {
-        return None;
-    };
-    let (fails, plants) = match more {
-        [] => (false, false),
-        [word] => (word.as_str() == "fails", word.as_str() == "plant"),
-        _ => return None,
-    };
-    if more.len() == 1 && !fails && !plants {
-        return None;
+/// Whether there is a cache.
+fn cache_of(word: &str) -> Option<bool> {
+    match word {
+        "cache" => Some(true),
+        "no-cache" => Some(false),
+        _ => None,
     }
+}
+
+/// The words behind `stress`.
+fn plan_of(words: &[String]) -> Option<Plan> {
+    let [placed, starts, seconds, seed, wrong] = words else {
+        return None;
+    };
     Some(Plan {
         placed: placed_of(placed.as_str())?,
+        starts: number(starts.as_str())?,
         seconds: number(seconds.as_str())?,
         seed: number(seed.as_str())?,
-        fails,
-        plants,
+        wrong: wrong_of(wrong.as_str())?,
     })
 }
 
-/// The words of `bench`: the measure, threads and requests, and whether there is a cache.
+/// The words behind `bench`.
 fn measure_of(words: &[String]) -> Option<Measure> {
     let [kind, threads, requests, cache] = words else {
         return None;
@@ -109,7 +134,7 @@ fn measure_of(words: &[String]) -> Option<Measure> {
         kind: kind_of(kind.as_str())?,
         threads: number(threads.as_str())?,
         requests: number(requests.as_str())?,
-        cache: cache.as_str() == "cache",
+        cache: cache_of(cache.as_str())?,
     })
 }
 

@@ -1,4 +1,4 @@
-//! Sessions and an administrator at one cluster, each in a thread of its own.
+//! One start of a cluster: clients and an administrator, each in a thread of its own.
 
 ghost use Rattle.std.specs.Prelude.{◌≡◌, ◌≤◌, true, length, vec_capacity};
 ghost use Rattle.cj_outside.specs.Stores.{Only};
@@ -6,153 +6,133 @@ ghost use Rattle.cj_model.specs.declared.limits.TheConstants.{BACKEND_LIMIT};
 ghost use Rattle.cj_board.specs.Seats.{board_id, pass_board};
 ghost use Rattle.cj_control.specs.Starting.{AreOfStarted};
 
-use crate::administrator::{Orphans, abort_all, administer, audit};
-use crate::client::{leave_orphan, read_planted, serve_one};
+use crate::administrator::{administer, audit};
+use crate::client::{create_tables, leave_orphan, serve_drawn, serve_mixed};
 use crate::configured::{conf_of, tried, tried_backends};
 use crate::lines::Lines;
 use crate::started::started;
-use crate::statements::TABLES;
-use crate::tasks::Plan;
+use crate::tasks::{Plan, Wrong};
+use crate::worker::{Stage, Worker};
 use cj_backend::Backend;
-use cj_control::Control;
+use cj_control::{Control, Naming, Pass};
 use cj_core::Shared;
-use cj_locked::{Naming, Pass};
 use cj_model::NoMemory;
 use cj_outside::{Draw, PcgDraw, Store};
 use std::alloc::Global;
 use std::marker::Brand;
+use std::sync::Wait;
 use std::sync::ledger::Blank;
-use std::sync::{Mutex, Wait};
 use std::thread;
 use std::thread::Threads;
 use std::time::{Clock, Duration, Instant};
 
-/// So many threads serve sessions.
+/// So many clients there are. With a planted fault they are few, so that they do not wait for each other.
 const CLIENTS: u64 = 16;
 
-/// So many milliseconds a client and the administrator wait between two things.
-const PAUSE: u64 = 3;
+const CLIENTS_PLANTED: u64 = 4;
 
-/// What one thread is to do: 0 is the administrator, the others are clients.
-#[derive(Drop)]
-struct Job<J: Naming> {
-    number: u64,
-    pass: Pass<J>,
-}
+/// A thread waits for less than so many milliseconds between two things.
+const PAUSE: u64 = 4;
 
-/// What all threads share.
-#[derive(Drop)]
-struct Run<'a, J: Naming, B: Backend, S: Store> {
-    control: &'a Control<J, B, S>,
+/// What is tried at one start.
+#[derive(Clone, Copy)]
+struct Trial {
     plan: Plan,
+    /// How many starts came before.
+    start: u64,
     began: Instant,
-    orphans: Orphans,
-    /// How many backends there are.
-    backends: u8,
-    ghost few: { backends ≤ length J.layout.names },
 }
 
-fn is_over<R: Clock>(rt: &R, began: Instant, seconds: u64) -> bool {
-    match began.elapsed(rt) {
-        Ok(passed) => passed.as_secs() >= seconds,
-        Err(_) => true,
+impl Trial {
+    /// Whether no more sessions begin.
+    fn is_over<R: Clock>(&self, rt: &R) -> bool {
+        match self.began.elapsed(rt) {
+            Ok(passed) => passed.as_secs() >= self.plan.seconds,
+            Err(_) => true,
+        }
     }
-}
 
-/// Opens a session that leaves a transaction open, for the administrator to end.
-fn leave_one<J: Naming, B: Backend, S: Store + Drop, R: Wait>(
-    rt: &R,
-    alloc: Global,
-    run: &Run<'_, J, B, S>,
-    pass: &mut Pass<J>,
-    draw: &mut PcgDraw,
-    lines: &mut Lines,
-) -> Result<(), NoMemory> {
-    let t = draw.below(TABLES);
-    let k = draw.below(8);
-    let statement = format!(in alloc; "UPDATE t{t} SET v = v + 7 WHERE k = {k}")?;
-    let tx = leave_orphan(rt, alloc, run.control, pass, statement.as_str(), lines)?;
-    if tx > 0 {
-        run.orphans.lock(rt).push(tx)?;
+    /// Returns how many clients there are.
+    fn clients(&self) -> u64
+        ensures { result ≤ 16 }
+    {
+        if self.plan.wrong == Wrong::Client {
+            CLIENTS_PLANTED
+        } else {
+            CLIENTS
+        }
     }
-    Ok(())
+
+    /// Makes what a thread has for itself.
+    fn worker<J: Naming>(&self, alloc: Global, number: u64, pass: Pass<J>) -> Worker<J> {
+        let seed = self.plan.seed.wrapping_mul(100).wrapping_add(self.start);
+        Worker {
+            number,
+            rounds: 0,
+            pass,
+            draw: PcgDraw::new(seed.wrapping_mul(100).wrapping_add(number)),
+            lines: Lines::new(alloc),
+        }
+    }
 }
 
 /// One thing that a thread does.
-fn do_one<J: Naming, B: Backend, S: Store + Drop, R: Wait + Clock>(
+fn do_one<J: Naming, B: Backend + Drop, S: Store + Drop, R: Wait + Clock>(
     rt: &R,
-    alloc: Global,
-    run: &Run<'_, J, B, S>,
-    job: &mut Job<J>,
-    draw: &mut PcgDraw,
-    lines: &mut Lines,
+    stage: &Stage<'_, J, B, S>,
+    trial: &Trial,
+    worker: &mut Worker<J>,
 ) -> Result<(), NoMemory> {
-    let pass = &mut job.pass;
-    if job.number == 0 {
-        thread::sleep(rt, Duration::from_millis(PAUSE));
-        return administer(
-            rt,
-            alloc,
-            run.control,
-            pass,
-            &run.orphans,
-            run.backends,
-            draw,
-            lines,
-        );
+    worker.rounds = worker.rounds.saturating_add(1);
+    if worker.number == 1 && trial.plan.wrong == Wrong::Client {
+        return serve_mixed(rt, stage, worker);
     }
-    if job.number == 1 && run.plan.plants {
-        return read_planted(rt, alloc, run.control, pass, lines);
+    thread::sleep(rt, Duration::from_millis(worker.draw.below(PAUSE)));
+    if worker.number == 0 {
+        administer(rt, stage, worker)
+    } else if worker.draw.below(8) == 0 {
+        leave_orphan(rt, stage, worker)
+    } else {
+        serve_drawn(rt, stage, worker)
     }
-    if draw.below(8) == 0 {
-        return leave_one(rt, alloc, run, pass, draw, lines);
-    }
-    thread::sleep(rt, Duration::from_millis(draw.below(PAUSE)));
-    serve_one(rt, alloc, run.control, pass, draw, lines)
 }
 
-/// Does what the thread is to do, until the time is over. Returns what it tells.
-fn do_job<J: Naming, B: Backend, S: Store + Drop, R: Wait + Clock>(
+/// Does what a thread is to do, until the time is over. Returns what it tells.
+fn do_all<J: Naming, B: Backend + Drop, S: Store + Drop, R: Wait + Clock>(
     rt: &R,
-    alloc: Global,
-    run: &Run<'_, J, B, S>,
-    mut job: Job<J>,
+    stage: &Stage<'_, J, B, S>,
+    trial: &Trial,
+    mut worker: Worker<J>,
 ) -> Option<Lines> {
-    let mut lines = Lines::new(alloc);
-    lines.add("thread").ok()?;
-    lines.add_number(job.number).ok()?;
-    lines.add("\n").ok()?;
-    let mut draw = PcgDraw::new(
-        run.plan
-            .seed
-            .wrapping_mul(CLIENTS + 1)
-            .wrapping_add(job.number),
-    );
+    worker.lines.add("thread").ok()?;
+    worker.lines.add_number(worker.number).ok()?;
+    worker.lines.end().ok()?;
     for _ in 0..u64::MAX {
-        if is_over(rt, run.began, run.plan.seconds) {
+        if trial.is_over(rt) {
             break;
         }
-        do_one(rt, alloc, run, &mut job, &mut draw, &mut lines).ok()?;
+        do_one(rt, stage, trial, &mut worker).ok()?;
     }
-    Some(lines)
+    Some(worker.lines)
 }
 
-/// Makes the jobs of all threads.
-fn jobs_of<J: Naming, B: Backend + Drop, S: Store + Drop>(
+/// Makes what each thread has for itself: the administrator, and the clients.
+fn workers_of<J: Naming, B: Backend + Drop, S: Store + Drop>(
     alloc: Global,
     control: &Control<J, B, S>,
+    trial: &Trial,
     pass: &mut Pass<J>,
-) -> Option<Vec<Job<J>>> {
-    let mut jobs = Vec::new(alloc);
-    for number in 0..CLIENTS + 1 {
+) -> Option<Vec<Worker<J>>> {
+    let mut workers = Vec::new(alloc);
+    for number in 0..trial.clients() + 1 {
         let pass = control.split(pass);
-        jobs.push(Job { number, pass }).ok()?;
+        workers.push(trial.worker(alloc, number, pass)).ok()?;
     }
-    Some(jobs)
+    Some(workers)
 }
 
-/// Shares the parts of a world, has all threads do their jobs, and audits at the end.
-fn run_all<
+/// Has all threads do what they are to do, and audits then. `main` is the thread that waits for them.
+fn perform<
     J: Naming + Send + Sync,
     B: Backend + Drop + Send + Sync,
     S: Store + Drop + Send,
@@ -160,51 +140,70 @@ fn run_all<
 >(
     rt: &R,
     alloc: Global,
-    shared: Shared<B, S>,
-    blank: Blank,
-    plan: Plan,
-    backends: u8,
-) -> Option<Vec<u8>>
+    control: &Control<J, B, S>,
+    trial: &Trial,
+    main: &mut Worker<J>,
+) -> Option<()> {
+    let stage = Stage::new(alloc, control);
+    if trial.start == 0 {
+        create_tables(rt, &stage, main).ok()?;
+    }
+    let workers = workers_of(alloc, control, trial, &mut main.pass)?;
+    let told = thread::map_vec(
+        rt,
+        workers,
+        &|worker: Worker<J>| do_all(rt, &stage, trial, worker),
+    )
+    .ok()?;
+    for each in told {
+        main.lines.add_all(each?).ok()?;
+    }
+    audit(rt, &stage, main, "end").ok()
+}
+
+/// Shares the parts of a world, tries the cluster, and takes it apart.
+fn try_shared<
+    J: Naming + Send + Sync,
+    B: Backend + Drop + Send + Sync,
+    S: Store + Drop + Send,
+    R: Threads + Wait + Clock + Sync,
+>(rt: &R, alloc: Global, shared: Shared<B, S>, blank: Blank, trial: Trial) -> Option<Lines>
     requires world { AreOfStarted B.tells S.tells S.faults (board_id shared.board) (pass_board shared.pass) shared.book shared.recovery_log shared.cells.items shared.accounts shared.dumps }
     requires board { board_id shared.board ≡ J.board }
     requires layout { shared.book.state.layout ≡ J.layout }
     requires turn { (blank.name ≡ J.turn) × (blank.parts ≡ 1) }
     requires tells { J.tells ≡ B.tells }
     requires emptied { (length shared.emptied.items ≡ 0) × (BACKEND_LIMIT ≤ vec_capacity shared.emptied) }
-    requires few { backends ≤ length J.layout.names }
 {
-    let (control, mut pass) = Control::<J, B, S>::start(alloc, shared, blank).ok()?;
-    let jobs = jobs_of(alloc, &control, &mut pass)?;
-    let run = Run {
-        control: &control,
-        plan,
-        began: Instant::now(rt).ok()?,
-        orphans: Mutex::new(Vec::new(alloc)),
-        backends,
-    };
-    let told = thread::map_vec(rt, jobs, &|job: Job<J>| do_job(rt, alloc, &run, job)).ok()?;
-    let mut lines = Lines::new(alloc);
-    for each in told {
-        lines.add_all(each?).ok()?;
-    }
-    abort_all(rt, &control, &mut pass, &run.orphans, &mut lines).ok()?;
-    audit(rt, &control, &mut pass, "end", &mut lines).ok()?;
-    Some(lines.into_text())
+    let (control, pass) = Control::<J, B, S>::start(alloc, shared, blank).ok()?;
+    let mut main = trial.worker(alloc, 0, pass);
+    main.lines.add("start").ok()?;
+    main.lines.add_number(trial.start).ok()?;
+    main.lines.end().ok()?;
+    perform(rt, alloc, &control, &trial, &mut main)?;
+    let _stopped = control.into_backends(&mut main.pass)?;
+    Some(main.lines)
 }
 
-/// Tries a cluster, and returns what its sessions and its administrator tell. None if it does not start, or memory is
-/// wanting.
-pub fn stress<S: Store + Drop + Send, R: Threads + Wait + Clock + Sync>(
+/// Starts a cluster over the log, tries it, and stops it. Returns what its threads tell. None if it does not start, or
+/// memory is wanting.
+pub fn try_start<S: Store + Drop + Send, R: Threads + Wait + Clock + Copy + Send + Sync>(
     rt: &R,
     alloc: Global,
     plan: Plan,
+    start: u64,
     log: S,
-) -> Option<Vec<u8>>
+) -> Option<Lines>
     requires { S.tells ≡ true → Only (S.held log) (S.may log) }
 {
+    let trial = Trial {
+        plan,
+        start,
+        began: Instant::now(rt).ok()?,
+    };
     let conf = conf_of(alloc, tried(plan.placed))?;
     let count = conf.placement.count();
-    let backends = tried_backends(alloc, count, plan).ok()?;
+    let backends = tried_backends(*rt, alloc, count, plan).ok()?;
     let shared = started(alloc, conf, log, backends)?;
-    run_all::<Brand, _, S, R>(rt, alloc, shared, Blank::new(1), plan, count)
+    try_shared::<Brand, _, S, R>(rt, alloc, shared, Blank::new(1), trial)
 }
