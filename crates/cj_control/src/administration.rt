@@ -63,23 +63,6 @@ fn refusal_of(error: BookError) -> AdminError
 }
 
 impl<J: Naming, B: Backend, S: Store + Drop> Control<J, B, S> {
-    /// Waits for the turn, and disables the backend. False if it is disabled already.
-    fn disable_in_turn<R: Wait>(&self, rt: &R, pass: &mut Pass<J>, b: u8) -> Result<bool, BookError>
-        requires below { b < length J.layout.names }
-        ensures brings { BringsSince (front pass.old.seat) (front pass.new.seat) (Disabled b) (λ h. is_enabled h b) result }
-        ensures more { HasNotedMore (pass_view pass.old.seat) (pass_view pass.new.seat) }
-        ensures legal { IsLegal (front pass.new.seat) }
-    {
-        let mut book = self.locks.turn_back.wait_while(
-            rt,
-            self.locks.book.lock(rt),
-            |x: &mut LockedBook<J, S>| -> bool
-                ensures { result ≡ is_none x.new.log }
-            { x.is_taken() },
-        );
-        book.disable(&self.locks.board, pass, b)
-    }
-
     /// Disables a backend, so that it takes no further entry and answers no query. Waits for the turn.
     pub fn disable<R: Wait>(&self, rt: &R, pass: &mut Pass<J>, b: u8) -> Result<(), AdminError>
         requires below { b < length J.layout.names }
@@ -87,37 +70,16 @@ impl<J: Naming, B: Backend, S: Store + Drop> Control<J, B, S> {
         ensures more { HasNotedMore (pass_view pass.old.seat) (pass_view pass.new.seat) }
         ensures legal { IsLegal (front pass.new.seat) }
     {
-        let disabled = self.disable_in_turn(rt, pass, b);
+        let disabled = self
+            .locks
+            .wait_for_turn(rt)
+            .disable(&self.locks.board, pass, b);
         self.locks.turn_back.notify_one();
         match disabled {
             Ok(true) => Ok(()),
             Ok(false) => Err(AdminError::NotEnabled),
             Err(error) => Err(refusal_of(error)),
         }
-    }
-
-    /// Waits for the turn, and begins a checkpoint's marker. None if a marker has the name.
-    fn begin_checkpoint<R: Wait>(
-        &self,
-        rt: &R,
-        pass: &mut Pass<J>,
-        name: &Name,
-    ) -> Result<Option<BegunMarker<J, S>>, BookError>
-        requires named { name.now ≢ [] }
-        ensures ok { IfOk result (λ begun. IfSome begun (λ x. BeginsMarkSince S.tells S.faults (front pass.old.seat) (front pass.new.seat) name.now None x.turn.share.amount x.turn.log x.item)) }
-        ensures taken { IfOk result (λ begun. IsNone begun → has_marker (front pass.new.seat) name.now ≡ true) }
-        ensures err { IfErr result (RefusesMark (front pass.new.seat)) }
-        ensures more { HasNotedMore (pass_view pass.old.seat) (pass_view pass.new.seat) }
-        ensures legal { IsLegal (front pass.new.seat) }
-    {
-        let mut book = self.locks.turn_back.wait_while(
-            rt,
-            self.locks.book.lock(rt),
-            |x: &mut LockedBook<J, S>| -> bool
-                ensures { result ≡ is_none x.new.log }
-            { x.is_taken() },
-        );
-        book.begin_marker(&self.locks.board, pass, name, None)
     }
 
     /// Finishes a marker that was begun, gives the turn back, and wakes those who wait for it.
@@ -157,7 +119,10 @@ impl<J: Naming, B: Backend, S: Store + Drop> Control<J, B, S> {
         ensures more { HasNotedMore (pass_view pass.old.seat) (pass_view pass.new.seat) }
         ensures legal { IsLegal (front pass.new.seat) }
     {
-        let begun = self.begin_checkpoint(rt, pass, name);
+        let begun = self
+            .locks
+            .wait_for_turn(rt)
+            .begin_marker(&self.locks.board, pass, name, None);
         match begun {
             Ok(Some(begun)) => {
                 let BegunMarker { item, mut turn } = begun;
@@ -179,30 +144,9 @@ impl<J: Naming, B: Backend, S: Store + Drop> Control<J, B, S> {
         }
     }
 
-    /// Waits for the turn, and begins the entry that ends an orphan. None if the transaction is no orphan.
-    fn begin_abort<R: Wait>(
-        &self,
-        rt: &R,
-        pass: &mut Pass<J>,
-        tx: u64,
-    ) -> Result<Option<BegunAbort<J, S>>, BookError>
-        ensures ok { IfOk result (λ begun. IfSome begun (λ x. BeginsAbortSince S.tells S.faults (placement_of J.layout) (front pass.old.seat) (front pass.new.seat) tx x.entry x.copy x.begun.prepared x.begun.turn.share.amount x.begun.turn.log x.begun.item)) }
-        ensures err { IfErr result (RefusesAbort (front pass.new.seat)) }
-        ensures more { HasNotedMore (pass_view pass.old.seat) (pass_view pass.new.seat) }
-        ensures legal { IsLegal (front pass.new.seat) }
-    {
-        let mut book = self.locks.turn_back.wait_while(
-            rt,
-            self.locks.book.lock(rt),
-            |x: &mut LockedBook<J, S>| -> bool
-                ensures { result ≡ is_none x.new.log }
-            { x.is_taken() },
-        );
-        book.begin_abort(self.locks.alloc, &self.locks.board, pass, tx)
-    }
-
-    /// Finishes what was begun. An orphan stays one until then, so this waits for nothing but the lock.
-    fn schedule_abort<R: Wait>(
+    /// Finishes what was begun, and wakes those who wait for it. An orphan stays one until then, so this waits for
+    /// nothing but the lock.
+    fn finish_abort<R: Wait>(
         &self,
         rt: &R,
         pass: &mut Pass<J>,
@@ -228,29 +172,8 @@ impl<J: Naming, B: Backend, S: Store + Drop> Control<J, B, S> {
                 ensures { result ≡ false → books.is_orphan x.new.book.state tx ≡ true }
             { !x.is_orphan(tx) },
         );
-        book.finish_abort(&self.locks.board, pass, turn, e, prepared, appended)
-    }
-
-    /// Finishes what was begun, and wakes those who wait for it.
-    fn finish_abort<R: Wait>(
-        &self,
-        rt: &R,
-        pass: &mut Pass<J>,
-        turn: Turn<J, S>,
-        e: Entry,
-        prepared: Prepared,
-        appended: Result<(), LogError>,
-    ) -> Result<OpenEntry<J, S>, BookError>
-        requires aborts { IsAbortOf e.tx e }
-        requires holds { HoldsAppended S.tells S.faults (placement_of J.layout) (front pass.old.seat) e prepared turn.share.amount turn.log appended }
-        ensures ok { IfOk result (λ entry. HoldsEntry S.tells S.faults (placement_of J.layout) (front pass.new.seat) entry.number e entry.turn.share.amount entry.turn.log) }
-        ensures since { IfOk result (λ entry. SchedulesAbortSince (placement_of J.layout) (front pass.old.seat) (front pass.new.seat) entry.number e) }
-        ensures enabled { IfOk result (λ entry. (b : ℕ) → in_mask entry.enabled b ≡ is_enabled (front pass.new.seat) b) }
-        ensures err { IfErr result (RefusesAppendedSince (front pass.old.seat) (front pass.new.seat)) }
-        ensures more { HasNotedMore (pass_view pass.old.seat) (pass_view pass.new.seat) }
-        ensures legal { IsLegal (front pass.new.seat) }
-    {
-        let finished = self.schedule_abort(rt, pass, turn, e, prepared, appended);
+        let finished = book.finish_abort(&self.locks.board, pass, turn, e, prepared, appended);
+        drop(book);
         self.locks.settled.notify_all();
         if finished.is_err() {
             self.locks.turn_back.notify_one();
@@ -301,7 +224,10 @@ impl<J: Naming, B: Backend, S: Store + Drop> Control<J, B, S> {
         ensures seen { HasSeenMore (pass_view pass.old.seat) (pass_view pass.new.seat) }
         ensures legal { IsLegal (front pass.new.seat) }
     {
-        let begun = self.begin_abort(rt, pass, tx);
+        let begun = self
+            .locks
+            .wait_for_turn(rt)
+            .begin_abort(self.locks.alloc, &self.locks.board, pass, tx);
         match begun {
             Ok(Some(begun)) => self.carry_out_abort(rt, pass, begun),
             Ok(None) => {

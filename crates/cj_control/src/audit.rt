@@ -28,24 +28,6 @@ use cj_replica::CellError;
 use std::sync::Wait;
 
 impl<J: Naming, B: Backend, S: Store + Drop> Control<J, B, S> {
-    /// Waits for the turn, and takes it.
-    fn hold<R: Wait>(&self, rt: &R, pass: &mut Pass<J>) -> HeldTurn<J, S>
-        ensures holds { HoldsTurn S.tells S.faults (front pass.new.seat) result.turn.share.amount result.turn.log }
-        ensures length { result.length ≡ length (log (front pass.new.seat)) }
-        ensures enabled { (b : ℕ) → in_mask result.enabled b ≡ is_enabled (front pass.new.seat) b }
-        ensures more { HasNotedMore (pass_view pass.old.seat) (pass_view pass.new.seat) }
-        ensures legal { IsLegal (front pass.new.seat) }
-    {
-        let mut book = self.locks.turn_back.wait_while(
-            rt,
-            self.locks.book.lock(rt),
-            |x: &mut LockedBook<J, S>| -> bool
-                ensures { result ≡ is_none x.new.log }
-            { x.is_taken() },
-        );
-        book.hold(&self.locks.board, pass)
-    }
-
     /// Gives the turn back, and wakes those who wait for it.
     fn give_back<R: Wait>(&self, rt: &R, pass: &mut Pass<J>, turn: Turn<J, S>)
         requires holds { HoldsTurn S.tells S.faults (front pass.old.seat) turn.share.amount turn.log }
@@ -150,7 +132,7 @@ impl<J: Naming, B: Backend, S: Store + Drop> Control<J, B, S> {
             length,
             enabled,
             turn,
-        } = self.hold(rt, pass);
+        } = self.locks.wait_for_turn(rt).hold(&self.locks.board, pass);
         let text = self.audit_each(rt, pass, length, enabled);
         self.give_back(rt, pass, turn);
         text

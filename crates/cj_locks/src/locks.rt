@@ -1,6 +1,7 @@
 //! The book and the cells, each behind its lock.
 
-ghost use Rattle.std.specs.Prelude.{◌≡◌, length};
+ghost use Rattle.std.specs.Prelude.{◌≡◌, false, length, is_none};
+ghost use Rattle.std.specs.Sync.Mutex.{mutex_guard_value};
 
 use cj_auth::Accounts;
 use cj_backend::Backend;
@@ -10,7 +11,7 @@ use cj_outside::Store;
 use cj_pass::{NamedBoard, Naming};
 use cj_place::Placement;
 use std::alloc::Global;
-use std::sync::{Condvar, Mutex};
+use std::sync::{Condvar, Mutex, MutexGuard, Wait};
 
 /// The book and the cells of a cluster, each behind a lock, at the board, the layout and the turn's ledger that `J`
 /// names.
@@ -35,4 +36,19 @@ pub struct Locks<J: Naming, B: Backend, S: Store> {
     ghost registered: { accounts.backends ≡ length placement.names },
     ghost told: { J.tells ≡ B.tells },
     ghost housed: { length cells.items ≡ length placement.names },
+}
+
+impl<J: Naming, B: Backend, S: Store + Drop> Locks<J, B, S> {
+    /// Waits until nobody has the turn, and returns the book locked, with the turn in it.
+    pub fn wait_for_turn<R: Wait>(&self, rt: &R) -> MutexGuard<'_, LockedBook<J, S>>
+        ensures { is_none (mutex_guard_value result).log ≡ false }
+    {
+        self.turn_back.wait_while(
+            rt,
+            self.book.lock(rt),
+            |book: &mut LockedBook<J, S>| -> bool
+                ensures { result ≡ is_none book.new.log }
+            { book.is_taken() },
+        )
+    }
 }

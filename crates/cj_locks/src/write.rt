@@ -1,6 +1,6 @@
 //! The way of an entry: the turn, the book, the log, the book again, each cell, and the book once more.
 
-ghost use Rattle.std.specs.Prelude.{◌≡◌, ℕ, ◌<◌, ◌≤◌, length, IfErr, IfOk, is_none};
+ghost use Rattle.std.specs.Prelude.{◌≡◌, ℕ, ◌<◌, ◌≤◌, length, IfErr, IfOk};
 ghost use Rattle.cj_model.specs.declared.limits.TheConstants.{BACKEND_LIMIT};
 ghost use Rattle.cj_model.specs.Cluster.Masks.{in_mask};
 ghost use Rattle.cj_cluster.specs.History.Histories.{is_enabled, log};
@@ -16,7 +16,7 @@ ghost use Rattle.cj_locks.specs.Writing.{least_after};
 use crate::locks::Locks;
 use cj_backend::Backend;
 use cj_book::{BookError, Prepared};
-use cj_locked::{Begun, LockedBook, OpenEntry, Turn};
+use cj_locked::{Begun, OpenEntry, Turn};
 use cj_log::LogError;
 use cj_model::{Entry, HISTORY_FULL, LOG_FAULT, NO_BACKEND, NO_MEMORY, Refusal, Reply, has_bit};
 use cj_outside::Store;
@@ -57,14 +57,7 @@ impl<J: Naming, B: Backend, S: Store + Drop> Locks<J, B, S> {
         ensures counted { event_count_of e.now.session (front pass.new.seat) ≡ (pass_view pass.new.seat).count }
         ensures legal { IsLegal (front pass.new.seat) }
     {
-        let mut book = self.turn_back.wait_while(
-            rt,
-            self.book.lock(rt),
-            |b: &mut LockedBook<J, S>| -> bool
-                ensures { result ≡ is_none b.new.log }
-            { b.is_taken() },
-        );
-        book.begin(&self.board, pass, e)
+        self.wait_for_turn(rt).begin(&self.board, pass, e)
     }
 
     /// Finishes what was begun, and wakes those who wait for it.
