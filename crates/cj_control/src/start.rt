@@ -38,7 +38,7 @@ struct Room<J: Naming, B: Backend> {
 }
 
 /// Takes the memory of a start with so many cells.
-fn reserve<J: Naming, B: Backend>(
+fn reserve<J: Naming, B: Backend + Drop>(
     alloc: Global,
     placement: &Placement,
     cells: usize,

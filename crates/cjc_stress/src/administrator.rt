@@ -9,7 +9,7 @@ use cj_outside::{Draw, Store};
 use std::sync::Wait;
 
 /// In this round a backend is disabled.
-const DISABLES: u64 = 24;
+const DISABLES: u64 = 8;
 
 fn tell_error(lines: &mut Lines, error: AdminError) -> Result<(), NoMemory> {
     match error {

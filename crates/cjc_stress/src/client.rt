@@ -5,7 +5,7 @@ ghost use Rattle.cj_model.specs.declared.limits.TheConstants.{USER_LIMIT};
 ghost use Rattle.cj_desk.specs.DeskStates.{desk_tx};
 
 use crate::lines::Lines;
-use crate::statements::{drawn_session, drawn_update, session_of, tables};
+use crate::statements::{changes, drawn_session, drawn_update, lookups, session_of, tables};
 use crate::worker::{Stage, Worker};
 use cj_backend::Backend;
 use cj_control::Naming;
@@ -72,7 +72,7 @@ pub fn serve_drawn<J: Naming, B: Backend, S: Store + Drop, R: Wait>(
 
 /// Serves two reads of a client, each by a session of its own. So the second may read what is older than what the first
 /// read. Their texts differ, so that the cache does not answer the second with the rows of the first.
-pub fn serve_mixed<J: Naming, B: Backend, S: Store + Drop, R: Wait>(
+fn serve_mixed<J: Naming, B: Backend, S: Store + Drop, R: Wait>(
     rt: &R,
     stage: &Stage<'_, J, B, S>,
     worker: &mut Worker<J>,
@@ -81,6 +81,22 @@ pub fn serve_mixed<J: Naming, B: Backend, S: Store + Drop, R: Wait>(
     serve(rt, stage, worker, "mixed", first)?;
     let second = session_of(stage.alloc, "SELECT k, v FROM t2")?;
     serve(rt, stage, worker, "mixed", second)
+}
+
+/// Serves what one client does where a fault is planted. The first one reads `t2` by ever new sessions. The second one
+/// keeps `b1` busy, so that each entry waits for it. The others change `t2`, which `b0` does before `b1` is waited for,
+/// and `b2` and `b3` do after it.
+pub fn serve_planted<J: Naming, B: Backend, S: Store + Drop, R: Wait>(
+    rt: &R,
+    stage: &Stage<'_, J, B, S>,
+    worker: &mut Worker<J>,
+) -> Result<(), NoMemory> {
+    let sent = match worker.number {
+        1 => return serve_mixed(rt, stage, worker),
+        2 => lookups(stage.alloc)?,
+        _ => changes(stage.alloc)?,
+    };
+    serve(rt, stage, worker, "session", sent)
 }
 
 /// The user of all sessions.
@@ -133,9 +149,10 @@ pub fn leave_orphan<J: Naming, B: Backend, S: Store + Drop, R: Wait>(
     worker: &mut Worker<J>,
 ) -> Result<(), NoMemory> {
     let text = drawn_update(stage.alloc, &mut worker.draw)?;
-    let (Some(user), Ok(Request::Write(write))) =
-        (user(stage.alloc)?, read(stage.alloc, text.as_bytes()))
-    else {
+    let (Some(user), Ok(Request::Write(write))) = (
+        user(stage.alloc)?,
+        read(stage.alloc, text.as_bytes()),
+    ) else {
         return Ok(());
     };
     let Ok(mut caller) = stage.control.caller(rt, &mut worker.pass) else {

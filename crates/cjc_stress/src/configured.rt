@@ -26,14 +26,11 @@ pub type Tried<R> = Gated<Flaky<MemBackend>, Slow<R>>;
 /// So many microseconds each write of a backend takes.
 const WRITE: u64 = 40;
 
-/// So many microseconds each query of `b1` takes where a fault is planted. An entry reaches `b0` before `b1`, and `b2`
-/// after it, so what these two hold of a table differs for that time.
-const LAG: u64 = 4000;
+/// So many microseconds each query of `b1` takes where a fault is planted.
+const LAG: u64 = 10000;
 
-/// A backend that fails does so in so many calls of the first `LAST`.
+/// A backend that fails does so in so many calls.
 const FAILS: u64 = 3;
-
-const LAST: u64 = 4000;
 
 const EVERYWHERE: &[u8] = b"level = \"raidb1\"
 cache = 8
@@ -120,11 +117,25 @@ pub fn memory_backends(alloc: Global, count: u8) -> Result<Backends<MemBackend>,
     Ok(backends)
 }
 
-/// Draws the numbers of the calls that fail.
-fn drawn_fails(alloc: Global, draw: &mut PcgDraw) -> Result<ListOf<u64>, NoMemory> {
+/// Returns among how many first calls of backend `b` those are that fail. They are ever more, so that some backend fails
+/// soon on a slow machine, and some one late on a fast machine.
+fn tried_calls(b: u8) -> u64
+    ensures { 0 < result }
+{
+    match b {
+        1 => 500,
+        2 => 5000,
+        _ => 50000,
+    }
+}
+
+/// Draws the numbers of the calls that fail, of so many first ones.
+fn drawn_fails(alloc: Global, draw: &mut PcgDraw, calls: u64) -> Result<ListOf<u64>, NoMemory>
+    requires { 0 < calls }
+{
     let mut fails = ListOf::new(alloc);
     for _ in 0..FAILS {
-        fails.push(draw.below(LAST))?;
+        fails.push(draw.below(calls))?;
     }
     Ok(fails)
 }
@@ -141,15 +152,16 @@ pub fn tried_backends<R: Clock + Copy>(
     alloc: Global,
     count: u8,
     plan: Plan,
+    start: u64,
 ) -> Result<Backends<Tried<R>>, NoMemory>
     ensures count { IfOk result (λ backends. length backends ≡ count) }
     ensures fresh { IfOk result (All (λ b. b.inner ≡ fresh_over fresh_state b.inner.fails)) }
 {
-    let mut draw = PcgDraw::new(plan.seed);
+    let mut draw = PcgDraw::new(plan.seed.wrapping_add(start));
     let mut backends = Backends::new(alloc);
     for b in 0..count {
         let listed = if plan.wrong == Wrong::Backends && b > 0 {
-            drawn_fails(alloc, &mut draw)?
+            drawn_fails(alloc, &mut draw, tried_calls(b))?
         } else {
             ListOf::new(alloc)
         };

@@ -12,6 +12,9 @@ const KEYS: u64 = 24;
 /// So many statements a session has.
 const STATEMENTS: u64 = 40;
 
+/// So many changes has one that only changes a table.
+const CHANGES: u64 = 4;
+
 /// The frame of Login of `ann`.
 const LOGIN: &[u8] = b"\x00\x00\x00\x0e\x01\x00\x03ann\x00\x06secret";
 
@@ -74,12 +77,33 @@ pub fn drawn_session(alloc: Global, draw: &mut PcgDraw) -> Result<Vec<u8>, NoMem
     Ok(frames)
 }
 
-/// The frames of a session that makes the tables.
+/// The frames of a session that makes the tables, with a row in each.
 pub fn tables(alloc: Global) -> Result<Vec<u8>, NoMemory> {
     let mut frames = login(alloc)?;
     for t in 0..TABLES {
-        let text = format!(in alloc; "CREATE TABLE t{t} (k INTEGER PRIMARY KEY, v INTEGER)")?;
+        let create = format!(in alloc; "CREATE TABLE t{t} (k INTEGER PRIMARY KEY, v INTEGER)")?;
+        append_query(&mut frames, create.as_str())?;
+        let insert = format!(in alloc; "INSERT INTO t{t} VALUES (0, {t})")?;
+        append_query(&mut frames, insert.as_str())?;
+    }
+    Ok(frames)
+}
+
+/// The frames of a session that looks up each key of `t0`. They are more than the answers that the cache keeps.
+pub fn lookups(alloc: Global) -> Result<Vec<u8>, NoMemory> {
+    let mut frames = login(alloc)?;
+    for k in 0..KEYS {
+        let text = format!(in alloc; "SELECT v FROM t0 WHERE k = {k}")?;
         append_query(&mut frames, text.as_str())?;
+    }
+    Ok(frames)
+}
+
+/// The frames of a session that changes `t2` again and again.
+pub fn changes(alloc: Global) -> Result<Vec<u8>, NoMemory> {
+    let mut frames = login(alloc)?;
+    for _ in 0..CHANGES {
+        append_query(&mut frames, "UPDATE t2 SET v = v + 1")?;
     }
     Ok(frames)
 }

@@ -1,7 +1,8 @@
 //! What the words of the command ask for.
 
 /// What the words may be.
-pub const USAGE: &str = "usage: cjc_stress stress raidb1|raidb2 STARTS SECONDS SEED sound|faulty|planted
+pub const USAGE: &str =
+    "usage: cjc_stress stress raidb1|raidb2 STARTS SECONDS SEED sound|faulty|planted
        cjc_stress bench reads|writes|reads-beside-writes|reads-alone|writes-alone THREADS REQUESTS cache|no-cache
 ";
 

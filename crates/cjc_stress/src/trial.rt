@@ -7,7 +7,7 @@ ghost use Rattle.cj_board.specs.Seats.{board_id, pass_board};
 ghost use Rattle.cj_control.specs.Starting.{AreOfStarted};
 
 use crate::administrator::{administer, audit};
-use crate::client::{create_tables, leave_orphan, serve_drawn, serve_mixed};
+use crate::client::{create_tables, leave_orphan, serve_drawn, serve_planted};
 use crate::configured::{conf_of, tried, tried_backends};
 use crate::lines::Lines;
 use crate::started::started;
@@ -26,10 +26,11 @@ use std::thread;
 use std::thread::Threads;
 use std::time::{Clock, Duration, Instant};
 
-/// So many clients there are. With a planted fault they are few, so that they do not wait for each other.
+/// So many clients there are.
 const CLIENTS: u64 = 16;
 
-const CLIENTS_PLANTED: u64 = 4;
+/// So many there are where a fault is planted.
+const CLIENTS_PLANTED: u64 = 3;
 
 /// A thread waits for less than so many milliseconds between two things.
 const PAUSE: u64 = 4;
@@ -84,8 +85,8 @@ fn do_one<J: Naming, B: Backend + Drop, S: Store + Drop, R: Wait + Clock>(
     worker: &mut Worker<J>,
 ) -> Result<(), NoMemory> {
     worker.rounds = worker.rounds.saturating_add(1);
-    if worker.number == 1 && trial.plan.wrong == Wrong::Client {
-        return serve_mixed(rt, stage, worker);
+    if trial.plan.wrong == Wrong::Client {
+        return serve_planted(rt, stage, worker);
     }
     thread::sleep(rt, Duration::from_millis(worker.draw.below(PAUSE)));
     if worker.number == 0 {
@@ -203,7 +204,7 @@ pub fn try_start<S: Store + Drop + Send, R: Threads + Wait + Clock + Copy + Send
     };
     let conf = conf_of(alloc, tried(plan.placed))?;
     let count = conf.placement.count();
-    let backends = tried_backends(*rt, alloc, count, plan).ok()?;
+    let backends = tried_backends(*rt, alloc, count, plan, start).ok()?;
     let shared = started(alloc, conf, log, backends)?;
     try_shared::<Brand, _, S, R>(rt, alloc, shared, Blank::new(1), trial)
 }
