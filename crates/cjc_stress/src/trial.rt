@@ -159,6 +159,8 @@ fn perform<
     for each in told {
         main.lines.add_all(each?).ok()?;
     }
+    // The next start ends what this leaves open.
+    leave_orphan(rt, &stage, main).ok()?;
     audit(rt, &stage, main, "end").ok()
 }
 
