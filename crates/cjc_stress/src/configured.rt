@@ -1,6 +1,6 @@
 //! What a cluster is configured with.
 
-ghost use Rattle.std.specs.Prelude.{◌≡◌, All, IfOk, IfSome, length};
+ghost use Rattle.std.specs.Prelude.{◌≡◌, ◌<◌, All, IfOk, IfSome, length};
 ghost use Rattle.cj_model.specs.Cluster.Caching.{empty_cache};
 ghost use Rattle.cj_conf.specs.Confs.{IsUsable};
 ghost use Rattle.cj_flaky.specs.FlakyBackends.{fresh_over};
@@ -57,15 +57,15 @@ backends = [{ name = \"b0\", kind = \"memory\" }, { name = \"b1\", kind = \"memo
 users = [{ name = \"ann\", sha256 = \"2bb80d537b1da3e38bd30361aa855686bde0eacd7162fef6a25fe97bf527a25b\", logins = [\"l0\", \"l1\"] }]
 ";
 
-/// The configuration of a cluster that is tried.
-pub fn tried(placed: Placed) -> &'static [u8] {
+/// The text of the configuration of a cluster that is tried.
+fn tried(placed: Placed) -> &'static [u8] {
     match placed {
         Placed::Everywhere => EVERYWHERE,
         Placed::InPart => IN_PART,
     }
 }
 
-/// The configuration of a cluster that is measured.
+/// The text of the configuration of a cluster that is measured.
 pub fn measured(cache: bool) -> &'static [u8] {
     if cache { MEASURED_CACHE } else { MEASURED }
 }
@@ -147,17 +147,16 @@ fn slow<R: Clock + Copy>(clock: R, plan: Plan, b: u8) -> Slow<R> {
 }
 
 /// Makes so many empty backends. If some calls fail, those of the first backend do not.
-pub fn tried_backends<R: Clock + Copy>(
+fn tried_backends<R: Clock + Copy>(
     clock: R,
     alloc: Global,
     count: u8,
     plan: Plan,
-    start: u64,
 ) -> Result<Backends<Tried<R>>, NoMemory>
     ensures count { IfOk result (λ backends. length backends ≡ count) }
     ensures fresh { IfOk result (All (λ b. b.inner ≡ fresh_over fresh_state b.inner.fails)) }
 {
-    let mut draw = PcgDraw::new(plan.seed.wrapping_add(start));
+    let mut draw = PcgDraw::new(plan.seed.wrapping_add(plan.start));
     let mut backends = Backends::new(alloc);
     for b in 0..count {
         let listed = if plan.wrong == Wrong::Backends && b > 0 {
@@ -169,4 +168,19 @@ pub fn tried_backends<R: Clock + Copy>(
         backends.push(Gated::new(flaky, slow(clock, plan, b)))?;
     }
     Ok(backends)
+}
+
+/// Makes the configuration of a cluster that is tried, and its backends. None if memory is wanting.
+pub fn setting<R: Clock + Copy>(
+    clock: R,
+    alloc: Global,
+    plan: Plan,
+) -> Option<(Conf, Backends<Tried<R>>)>
+    ensures usable { IfSome result (λ made. IsUsable made.0) }
+    ensures count { IfSome result (λ made. length made.1 ≡ length made.0.placement.names) }
+    ensures fresh { IfSome result (λ made. All (λ b. b.inner ≡ fresh_over fresh_state b.inner.fails) made.1) }
+{
+    let conf = conf_of(alloc, tried(plan.placed))?;
+    let backends = tried_backends(clock, alloc, conf.placement.count(), plan).ok()?;
+    Some((conf, backends))
 }

@@ -2,7 +2,7 @@
 
 /// What the words may be.
 pub const USAGE: &str =
-    "usage: cjc_stress stress raidb1|raidb2 STARTS SECONDS SEED sound|faulty|planted
+    "usage: cjc_stress stress raidb1|raidb2 START SECONDS SEED sound|faulty|planted
        cjc_stress bench reads|writes|reads-beside-writes|reads-alone|writes-alone THREADS REQUESTS cache|no-cache
 ";
 
@@ -30,9 +30,9 @@ pub enum Wrong {
 #[derive(Clone, Copy)]
 pub struct Plan {
     pub placed: Placed,
-    /// So often the cluster is started over its log.
-    pub starts: u64,
-    /// For so long sessions begin at each start.
+    /// So many starts over the same log came before.
+    pub start: u64,
+    /// For so long sessions begin.
     pub seconds: u64,
     pub seed: u64,
     pub wrong: Wrong,
@@ -114,12 +114,12 @@ fn cache_of(word: &str) -> Option<bool> {
 
 /// The words behind `stress`.
 fn plan_of(words: &[String]) -> Option<Plan> {
-    let [placed, starts, seconds, seed, wrong] = words else {
+    let [placed, start, seconds, seed, wrong] = words else {
         return None;
     };
     Some(Plan {
         placed: placed_of(placed.as_str())?,
-        starts: number(starts.as_str())?,
+        start: number(start.as_str())?,
         seconds: number(seconds.as_str())?,
         seed: number(seed.as_str())?,
         wrong: wrong_of(wrong.as_str())?,

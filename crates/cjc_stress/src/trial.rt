@@ -1,21 +1,24 @@
 //! One start of a cluster: clients and an administrator, each in a thread of its own.
 
-ghost use Rattle.std.specs.Prelude.{◌≡◌, ◌≤◌, true, length, vec_capacity};
+ghost use Rattle.std.specs.Prelude.{◌≡◌, ◌≤◌, true, length, map, vec_capacity};
 ghost use Rattle.cj_outside.specs.Stores.{Only};
 ghost use Rattle.cj_model.specs.declared.limits.TheConstants.{BACKEND_LIMIT};
+ghost use Rattle.cj_conf.specs.Confs.{IsUsable};
 ghost use Rattle.cj_board.specs.Seats.{board_id, pass_board};
+ghost use Rattle.cj_state.specs.Beginnings.{AreEmpty};
+ghost use Rattle.cj_core.specs.Starts.{HaveBegunNone};
 ghost use Rattle.cj_control.specs.Starting.{AreOfStarted};
 
 use crate::administrator::{administer, audit};
 use crate::client::{create_tables, leave_orphan, serve_drawn, serve_planted};
-use crate::configured::{conf_of, tried, tried_backends};
 use crate::lines::Lines;
 use crate::started::started;
 use crate::tasks::{Plan, Wrong};
 use crate::worker::{Stage, Worker};
 use cj_backend::Backend;
+use cj_conf::Conf;
 use cj_control::{Control, Naming, Pass};
-use cj_core::Shared;
+use cj_core::{Backends, Shared};
 use cj_model::NoMemory;
 use cj_outside::{Draw, PcgDraw, Store};
 use std::alloc::Global;
@@ -39,8 +42,6 @@ const PAUSE: u64 = 4;
 #[derive(Clone, Copy)]
 struct Trial {
     plan: Plan,
-    /// How many starts came before.
-    start: u64,
     began: Instant,
 }
 
@@ -66,7 +67,11 @@ impl Trial {
 
     /// Makes what a thread has for itself.
     fn worker<J: Naming>(&self, alloc: Global, number: u64, pass: Pass<J>) -> Worker<J> {
-        let seed = self.plan.seed.wrapping_mul(100).wrapping_add(self.start);
+        let seed = self
+            .plan
+            .seed
+            .wrapping_mul(100)
+            .wrapping_add(self.plan.start);
         Worker {
             number,
             rounds: 0,
@@ -146,7 +151,7 @@ fn perform<
     main: &mut Worker<J>,
 ) -> Option<()> {
     let stage = Stage::new(alloc, control);
-    if trial.start == 0 {
+    if trial.plan.start == 0 {
         create_tables(rt, &stage, main).ok()?;
     }
     let workers = workers_of(alloc, control, trial, &mut main.pass)?;
@@ -181,32 +186,28 @@ fn try_shared<
     let (control, pass) = Control::<J, B, S>::start(alloc, shared, blank).ok()?;
     let mut main = trial.worker(alloc, 0, pass);
     main.lines.add("start").ok()?;
-    main.lines.add_number(trial.start).ok()?;
+    main.lines.add_number(trial.plan.start).ok()?;
     main.lines.end().ok()?;
     perform(rt, alloc, &control, &trial, &mut main)?;
     let _stopped = control.into_backends(&mut main.pass)?;
     Some(main.lines)
 }
 
-/// Starts a cluster over the log, tries it, and stops it. Returns what its threads tell. None if it does not start, or
-/// memory is wanting.
-pub fn try_start<S: Store + Drop + Send, R: Threads + Wait + Clock + Copy + Send + Sync>(
-    rt: &R,
-    alloc: Global,
-    plan: Plan,
-    start: u64,
-    log: S,
-) -> Option<Lines>
-    requires { S.tells ≡ true → Only (S.held log) (S.may log) }
+/// Starts a cluster over these backends and the log, tries it, and stops it. Returns what its threads tell. None if it
+/// does not start, or memory is wanting.
+pub fn try_start<
+    B: Backend + Drop + Send + Sync,
+    S: Store + Drop + Send,
+    R: Threads + Wait + Clock + Sync,
+>(rt: &R, alloc: Global, plan: Plan, conf: Conf, log: S, backends: Backends<B>) -> Option<Lines>
+    requires usable { IsUsable conf }
+    requires as_many { length backends ≡ length conf.placement.names }
+    requires empty { AreEmpty B.tells (map B.told backends) }
+    requires none { HaveBegunNone (map B.begun backends) }
+    requires disk { S.tells ≡ true → Only (S.held log) (S.may log) }
 {
-    let trial = Trial {
-        plan,
-        start,
-        began: Instant::now(rt).ok()?,
-    };
-    let conf = conf_of(alloc, tried(plan.placed))?;
-    let count = conf.placement.count();
-    let backends = tried_backends(*rt, alloc, count, plan, start).ok()?;
+    let began = Instant::now(rt).ok()?;
+    let trial = Trial { plan, began };
     let shared = started(alloc, conf, log, backends)?;
     try_shared::<Brand, _, S, R>(rt, alloc, shared, Blank::new(1), trial)
 }
