@@ -1,1 +1,1 @@
-mod NewSessions
+mod NewBackends

@@ -181,6 +181,8 @@ pub fn setting<R: Clock + Copy>(
     ensures fresh { IfSome result (λ made. All (λ b. b.inner ≡ fresh_over fresh_state b.inner.fails) made.1) }
 {
     let conf = conf_of(alloc, tried(plan.placed))?;
-    let backends = tried_backends(clock, alloc, conf.placement.count(), plan).ok()?;
-    Some((conf, backends))
+    match tried_backends(clock, alloc, conf.placement.count(), plan) {
+        Ok(backends) => Some((conf, backends)),
+        Err(_) => None,
+    }
 }

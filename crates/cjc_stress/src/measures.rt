@@ -1,9 +1,11 @@
 //! Measures: threads that each serve one session, and the time that it took.
 
-ghost use Rattle.std.specs.Prelude.{◌≡◌, ◌≤◌, true, [], length, vec_capacity};
+ghost use Rattle.std.specs.Prelude.{◌≡◌, ◌≤◌, true, [], All, length, vec_capacity};
 ghost use Rattle.cj_outside.specs.Stores.{Only};
 ghost use Rattle.cj_model.specs.declared.limits.TheConstants.{BACKEND_LIMIT};
 ghost use Rattle.cj_cluster.specs.History.Histories.{is_free};
+ghost use Rattle.cj_conf.specs.Confs.{IsUsable};
+ghost use Rattle.cj_mem.specs.MemoryBackends.{fresh_state};
 ghost use Rattle.cj_board.specs.Seats.{board_id, pass_board};
 ghost use Rattle.cj_control.specs.Starting.{AreOfStarted};
 
@@ -14,8 +16,9 @@ use crate::started::started;
 use crate::statements::{append_query, login, session_of};
 use crate::tasks::{Kind, Measure};
 use cj_backend::Backend;
+use cj_conf::Conf;
 use cj_control::{Control, Naming, Pass};
-use cj_core::{Shared, World};
+use cj_core::{Backends, Shared, World};
 use cj_mem::MemBackend;
 use cj_model::NoMemory;
 use cj_outside::{Draw, PcgDraw, Store};
@@ -106,7 +109,9 @@ fn serve<J: Naming, B: Backend, S: Store + Drop, R: Wait + Clock>(
     pass: &mut Pass<J>,
     sent: Vec<u8>,
 ) -> Option<u64> {
-    let mut caller = control.caller(rt, pass).ok()?;
+    let Ok(mut caller) = control.caller(rt, pass) else {
+        return None;
+    };
     let began = Instant::now(rt).ok()?;
     let sink = served(rt, alloc, &mut caller, sent);
     let passed = passed(rt, began);
@@ -261,6 +266,47 @@ fn run_alone<S: Store + Drop, R: Clock>(
     tell(alloc, passed, Vec::new(alloc))
 }
 
+/// Measures a desk that shares nothing.
+fn bench_alone<S: Store + Drop, R: Clock>(
+    rt: &R,
+    alloc: Global,
+    measure: Measure,
+    conf: Conf,
+    log: S,
+    backends: Backends<MemBackend>,
+) -> Option<Lines>
+    requires usable { IsUsable conf }
+    requires as_many { length backends ≡ length conf.placement.names }
+    requires fresh { All (λ b. b ≡ fresh_state) backends }
+    requires disk { S.tells ≡ true → Only (S.held log) (S.may log) }
+{
+    let Ok(parts) = parts_of(alloc, conf) else {
+        return None;
+    };
+    match World::start(alloc, parts, log, backends) {
+        Ok(world) => run_alone(rt, alloc, world, measure),
+        Err(_) => None,
+    }
+}
+
+/// Measures a cluster that threads share.
+fn bench_shared<S: Store + Drop + Send, R: Threads + Wait + Clock + Sync>(
+    rt: &R,
+    alloc: Global,
+    measure: Measure,
+    conf: Conf,
+    log: S,
+    backends: Backends<MemBackend>,
+) -> Option<Lines>
+    requires usable { IsUsable conf }
+    requires as_many { length backends ≡ length conf.placement.names }
+    requires fresh { All (λ b. b ≡ fresh_state) backends }
+    requires disk { S.tells ≡ true → Only (S.held log) (S.may log) }
+{
+    let shared = started(alloc, conf, log, backends)?;
+    run_all::<Brand, _, S, R>(rt, alloc, shared, Blank::new(1), measure)
+}
+
 /// Measures, and returns what is told. None if the cluster does not start, or memory is wanting.
 pub fn bench<S: Store + Drop + Send, R: Threads + Wait + Clock + Sync>(
     rt: &R,
@@ -271,14 +317,12 @@ pub fn bench<S: Store + Drop + Send, R: Threads + Wait + Clock + Sync>(
     requires { S.tells ≡ true → Only (S.held log) (S.may log) }
 {
     let conf = conf_of(alloc, measured(measure.cache))?;
-    let backends = memory_backends(alloc, conf.placement.count()).ok()?;
+    let Ok(backends) = memory_backends(alloc, conf.placement.count()) else {
+        return None;
+    };
     if matches!(measure.kind, Kind::ReadsAlone | Kind::WritesAlone) {
-        let parts = parts_of(alloc, conf).ok()?;
-        return match World::start(alloc, parts, log, backends) {
-            Ok(world) => run_alone(rt, alloc, world, measure),
-            Err(_) => None,
-        };
+        bench_alone(rt, alloc, measure, conf, log, backends)
+    } else {
+        bench_shared(rt, alloc, measure, conf, log, backends)
     }
-    let shared = started(alloc, conf, log, backends)?;
-    run_all::<Brand, _, S, R>(rt, alloc, shared, Blank::new(1), measure)
 }

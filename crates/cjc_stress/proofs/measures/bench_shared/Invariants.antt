@@ -1,6 +1,6 @@
 use Rattle.std.specs.Prelude.{true}
 use Rattle.cj_board.specs.Seats.{board_id}
-use Rattle.cjc_stress.proofs.measures.bench.Given as goal
+use Rattle.cjc_stress.proofs.measures.bench_shared.Given as goal
 
 -- the names of the cluster that is made
 abbrev pub ghosts-run_all : goal.ghosts-run_all
