@@ -1,16 +1,14 @@
 //! What the administrator does at the book: disables a backend, marks a checkpoint, ends an orphan.
 
-ghost use Rattle.std.specs.Prelude.{◌≡◌, ◌≢◌, ◌<◌, ℕ, [], true, false, length, None, IfErr, IfOk, IfSome, IsNone, is_none};
+ghost use Rattle.std.specs.Prelude.{◌≡◌, ◌≢◌, ◌<◌, ℕ, [], true, false, length, None, IfErr, IfOk};
 ghost use Rattle.cj_model.specs.Cluster.Masks.{in_mask};
-ghost use Rattle.cj_cluster.specs.declared.event.Event.TheVariants.{Disabled};
-ghost use Rattle.cj_cluster.specs.History.Histories.{has_marker, is_enabled};
+ghost use Rattle.cj_cluster.specs.History.Histories.{is_enabled};
 ghost use Rattle.cj_cluster.specs.History.Legality.{IsLegal};
 ghost use Rattle.cj_place.specs.Layouts.{placement_of};
 ghost use Rattle.cj_board.specs.Seats.{front, pass_view};
 ghost use Rattle.cj_book.specs.Books as books;
-ghost use Rattle.cj_locked.specs.Changes.{BringsSince};
-ghost use Rattle.cj_locked.specs.Marking.{BeginsMarkSince, HoldsMarked, MarksSince, RefusesMark};
-ghost use Rattle.cj_locked.specs.Orphans.{BeginsAbortSince, IsAbortOf, RefusesAbort, RefusesAppendedSince, SchedulesAbortSince};
+ghost use Rattle.cj_locked.specs.Marking.{HoldsMarked, MarksSince};
+ghost use Rattle.cj_locked.specs.Orphans.{BeginsAbortSince, IsAbortOf, RefusesAppendedSince, SchedulesAbortSince};
 ghost use Rattle.cj_pass.specs.Passes.{HasNotedMore, HasSeenMore};
 ghost use Rattle.cj_locked.specs.Writing.{HoldsAppended, HoldsEntry};
 ghost use Rattle.cj_control.specs.Administration.{CanRefuse, ChecksSince, DisablesSince, EndsOrphanSince, IsRefusalOf};

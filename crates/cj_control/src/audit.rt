@@ -1,6 +1,6 @@
 //! The audit: what the enabled backends hold while the turn is held.
 
-ghost use Rattle.std.specs.Prelude.{◌≡◌, ◌++◌, ◌<◌, ℕ, true, List, length, IfErr, IfOk, OnOk, is_none};
+ghost use Rattle.std.specs.Prelude.{◌≡◌, ◌++◌, ◌<◌, ℕ, true, List, length, IfErr, IfOk, OnOk};
 ghost use mathlib.Core.List.{IsPrefix};
 ghost use Rattle.cj_model.specs.declared.limits.TheConstants.{BACKEND_LIMIT};
 ghost use Rattle.cj_model.specs.Cluster.Masks.{in_mask};
@@ -20,7 +20,7 @@ use crate::administration::AdminError;
 use crate::control::Control;
 use cj_audit::{append_backend, into_text};
 use cj_backend::Backend;
-use cj_locked::{HeldTurn, LockedBook, Turn};
+use cj_locked::{HeldTurn, Turn};
 use cj_model::{Db, Text, has_bit};
 use cj_outside::Store;
 use cj_pass::{Naming, Pass};

@@ -13,7 +13,7 @@ ghost use Rattle.cj_state.specs.Seats.{AreCellsAt};
 ghost use Rattle.cj_pass.specs.Passes.{HasNotedMore};
 ghost use Rattle.cj_control.specs.Starting.{AreOfStarted, FallTo, HoldFrom, IsCurrentAt};
 
-use crate::control::Control;
+use crate::control::{Control, Emptied};
 use cj_backend::Backend;
 use cj_locked::{LockedBook, Turn};
 use cj_locked_cell::LockedCell;
@@ -156,32 +156,28 @@ impl<J: Naming, B: Backend + Drop, S: Store + Drop> Control<J, B, S> {
         let Ok(room) = reserve(alloc, book.placement(), cells.len()) else {
             return Err((NoMemory, recovery_log.into_log()));
         };
-        let Room {
-            placement,
-            locks,
-            unlocked,
-        } = room;
         let (ledger, share) = blank.open();
         let board = NamedBoard::new(board);
         let mut pass = Pass::new(pass);
         let mut book = LockedBook::new(book, ledger, Turn::new(share, recovery_log));
         book.tell(&board, &mut pass);
-        let keeps = !book.keeps_none();
         let locks = Locks {
             alloc,
             board,
+            keeps: !book.keeps_none(),
             book: Mutex::new(book),
             turn_back: Condvar::new(),
             settled: Condvar::new(),
-            cells: locked(cells, locks),
-            placement,
+            cells: locked(cells, room.locks),
+            placement: room.placement,
             accounts,
-            keeps,
         };
         let control = Control {
             locks,
-            unlocked,
-            emptied,
+            emptied: Mutex::new(Emptied {
+                cells: room.unlocked,
+                backends: emptied,
+            }),
         };
         Ok((control, pass))
     }
@@ -220,11 +216,11 @@ impl<J: Naming, B: Backend + Drop, S: Store + Drop> Control<J, B, S> {
         ensures as_many { IfSome result (λ backends. length backends ≡ length self.locks.placement.names) }
         ensures current { IfSome result (HoldFrom (λ b x. IsCurrentAt B.tells (placement_of J.layout) (front pass.new.seat) b (B.told x)) 0) }
     {
-        let Control {
-            locks,
-            unlocked: empty,
-            emptied,
-        } = self;
+        let Control { locks, emptied } = self;
+        let Emptied {
+            cells: empty,
+            backends,
+        } = emptied.into_inner();
         let Locks {
             board,
             book,
@@ -234,7 +230,7 @@ impl<J: Naming, B: Backend + Drop, S: Store + Drop> Control<J, B, S> {
         let mut book = book.into_inner();
         book.tell(&board, pass);
         let cells = unlocked(&board, pass, cells, empty)?;
-        let backends = backends_of(&board, pass, cells, emptied);
+        let backends = backends_of(&board, pass, cells, backends);
         Some(ListOf::from_vec(backends))
     }
 }

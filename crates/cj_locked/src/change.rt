@@ -9,6 +9,7 @@ ghost use Rattle.cj_locked.specs.Changes.{BringsAt, BringsSince};
 ghost use Rattle.cj_pass.specs.Passes.{HasNotedMore};
 
 use crate::book::LockedBook;
+use crate::turn::taken;
 use cj_book::BookError;
 use cj_outside::Store;
 use cj_pass::{NamedBoard, Naming, Pass};
@@ -35,7 +36,7 @@ impl<J: Naming, S: Store + Drop> LockedBook<J, S> {
         disabled
     }
 
-    /// The same, of which no pass hears.
+    /// Disables a backend, of which no pass hears. False if it is disabled already.
     fn disable_now(&mut self, board: &NamedBoard<J>, b: u8) -> Result<bool, BookError>
         requires vacant { is_none self.old.log ≡ false }
         requires below { b < length J.layout.names }
@@ -45,17 +46,15 @@ impl<J: Naming, S: Store + Drop> LockedBook<J, S> {
         if !self.book.is_enabled(b) {
             return Ok(false);
         }
-        let Some(mut turn) = self.turn.take() else {
-            unreachable!()
-        };
+        let mut turn = taken(&mut self.turn);
         match self.book.disable(&board.board, b) {
             Ok(()) => {
                 turn.count(&mut self.ledger, 3);
-                self.turn = Some(turn);
+                self.turn = Some(turn.keep());
                 Ok(true)
             }
             Err(error) => {
-                self.turn = Some(turn);
+                self.turn = Some(turn.keep());
                 Err(error)
             }
         }
@@ -85,7 +84,8 @@ impl<J: Naming, S: Store + Drop> LockedBook<J, S> {
         enabled
     }
 
-    /// The same, with a book that has the note, and of which no pass hears.
+    /// Enables a backend by its note in the book, of which no pass hears. False if it is enabled already, or if there
+    /// are more than `n` entries.
     fn enable_now(&mut self, board: &NamedBoard<J>, b: u8, n: u64) -> Result<bool, BookError>
         requires vacant { is_none self.old.log ≡ false }
         requires below { b < length J.layout.names }
@@ -97,17 +97,15 @@ impl<J: Naming, S: Store + Drop> LockedBook<J, S> {
         if !wanted {
             return Ok(false);
         }
-        let Some(mut turn) = self.turn.take() else {
-            unreachable!()
-        };
+        let mut turn = taken(&mut self.turn);
         match self.book.enable(&board.board, b) {
             Ok(()) => {
                 turn.count(&mut self.ledger, 3);
-                self.turn = Some(turn);
+                self.turn = Some(turn.keep());
                 Ok(true)
             }
             Err(error) => {
-                self.turn = Some(turn);
+                self.turn = Some(turn.keep());
                 Err(error)
             }
         }

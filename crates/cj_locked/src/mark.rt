@@ -8,7 +8,7 @@ ghost use Rattle.cj_locked.specs.Marking.{BeginsMarkSince, HoldsMarked, MarksAt,
 ghost use Rattle.cj_pass.specs.Passes.{HasNotedMore};
 
 use crate::book::{LockedBook, refusal_weight};
-use crate::turn::Turn;
+use crate::turn::{Turn, taken};
 use cj_book::BookError;
 use cj_log::{LogError, LogItem};
 use cj_model::Name;
@@ -16,7 +16,6 @@ use cj_outside::Store;
 use cj_pass::{NamedBoard, Naming, Pass};
 
 /// What the writer of a marker has while the marker is on its way into the recovery log.
-#[derive(Drop)]
 pub struct BegunMarker<J: Naming, S: Store> {
     /// The marker's item, which the log is to append.
     pub item: LogItem,
@@ -52,7 +51,7 @@ impl<J: Naming, S: Store + Drop> LockedBook<J, S> {
         Ok(Some(begun))
     }
 
-    /// The same, of a name that no marker has.
+    /// Begins a marker of a name that no marker has.
     fn begin_fresh(&mut self, name: &Name, b: Option<u8>) -> Result<BegunMarker<J, S>, BookError>
         requires vacant { is_none self.old.log ≡ false }
         requires fresh { has_marker self.old.book.state.history name.now ≡ false }
@@ -63,9 +62,7 @@ impl<J: Naming, S: Store + Drop> LockedBook<J, S> {
         ensures state { self.new.book.state ≡ self.old.book.state }
         ensures back { OnErr result (is_none self.new.log ≡ false) }
     {
-        let Some(mut turn) = self.turn.take() else {
-            unreachable!()
-        };
+        let mut turn = taken(&mut self.turn);
         turn.audit(&mut self.ledger);
         match self.book.begin_marker(name, b) {
             Ok(item) => {
@@ -73,7 +70,7 @@ impl<J: Naming, S: Store + Drop> LockedBook<J, S> {
                 Ok(BegunMarker { item, turn })
             }
             Err(error) => {
-                self.turn = Some(turn);
+                self.turn = Some(turn.keep());
                 Err(error)
             }
         }
@@ -103,7 +100,7 @@ impl<J: Naming, S: Store + Drop> LockedBook<J, S> {
         marked
     }
 
-    /// The same, of which no pass hears.
+    /// Finishes a marker that was begun, of which no pass hears.
     fn mark_now(
         &mut self,
         board: &NamedBoard<J>,
@@ -122,12 +119,12 @@ impl<J: Naming, S: Store + Drop> LockedBook<J, S> {
         match self.book.finish_marker(&board.board, name, b, appended) {
             Ok(number) => {
                 turn.count(&mut self.ledger, 3);
-                self.turn = Some(turn);
+                self.turn = Some(turn.keep());
                 Ok(number)
             }
             Err(error) => {
                 turn.count(&mut self.ledger, refusal_weight(error));
-                self.turn = Some(turn);
+                self.turn = Some(turn.keep());
                 Err(error)
             }
         }

@@ -1,11 +1,12 @@
 //! A cell behind its lock.
 
-ghost use Rattle.std.specs.Prelude.{◌≡◌, ◌≢◌, ◌-◌, ◌<◌, ℕ, true, length, Some, Err, slice_get, Contains, IfSome};
+ghost use Rattle.std.specs.Prelude.{◌≡◌, ◌≢◌, ◌-◌, ◌<◌, ℕ, List, true, length, Some, Err, slice_get, Contains, IfSome};
 ghost use mathlib.Core.List.{IsPrefix};
 ghost use Rattle.cj_model.specs.declared.request.Request.TheVariants as request;
 ghost use Rattle.cj_model.specs.Sql.WrittenRequests.{IsWritten};
 ghost use Rattle.cj_model.specs.declared.limits.TheConstants.{BACKEND_LIMIT};
 ghost use Rattle.cj_model.specs.Cluster.Placements.{part};
+ghost use Rattle.cj_cluster.specs.declared.event.Event.{Event};
 ghost use Rattle.cj_cluster.specs.History.Histories.{database_after, is_enabled, is_free, log};
 ghost use Rattle.cj_cluster.specs.History.Legality.{IsLegal};
 ghost use Rattle.cj_board.specs.Seats.{front, pass_view};
@@ -14,7 +15,7 @@ ghost use Rattle.cj_replica.specs.Cells.{GivesContents, ReadsAnswer};
 ghost use Rattle.cj_locked_cell.specs.Asking.{GivesPart};
 ghost use Rattle.cj_pass.specs.Passes.{HasNotedMore};
 ghost use Rattle.cj_locked_cell.specs.Answering.{IsReadAnswer};
-ghost use Rattle.cj_locked_cell.specs.Taking.{report_of, CarriesOut, ReportsEntry};
+ghost use Rattle.cj_locked_cell.specs.Taking.{report_of, CarriesOutEntry, ReportsEntry};
 
 use cj_backend::Backend;
 use cj_cluster::Did;
@@ -60,8 +61,7 @@ impl<J: Naming, B: Backend> LockedCell<J, B> {
     /// Has the backend carry out or skip entry `n`, under this login, and says which backend it is and what it did.
     /// The pass has seen the entry, and has noted the rest then.
     ///
-    /// A cell that stands elsewhere than before the entry reports that it ran out of memory. None that is enabled
-    /// does.
+    /// A cell that stands elsewhere than before the entry reports that it ran out of memory.
     pub fn take(
         &mut self,
         board: &NamedBoard<J>,
@@ -77,7 +77,7 @@ impl<J: Naming, B: Backend> LockedCell<J, B> {
         ensures backend { result.0 < BACKEND_LIMIT }
         ensures reports { ReportsEntry B.tells (placement_of J.layout) n e.now (pass_view pass.new.seat) result.0 result.1 }
         ensures number { result.0 ≡ self.old.cell.state.b }
-        ensures carried { self.old.cell.state.position ≡ Some (n - 1) → CarriesOut self.old.cell.state n e.now login.now result.1 self.new.cell.state }
+        ensures carried { self.old.cell.state.position ≡ Some (n - 1) → CarriesOutEntry self.old.cell.state n e.now login.now result.1 self.new.cell.state }
         ensures elsewhere { self.old.cell.state.position ≢ Some (n - 1) → (result.1 ≡ Did.Starved) × (self.new.cell.state ≡ self.old.cell.state) }
     {
         let b = self.cell.number();
@@ -94,7 +94,7 @@ impl<J: Naming, B: Backend> LockedCell<J, B> {
         }
     }
 
-    /// The same for a cell that has been told of the entry, and stands before it.
+    /// Has the backend carry out or skip entry `n`, of which the cell was told, and before which it stands.
     fn take_next(
         &mut self,
         board: &NamedBoard<J>,
@@ -109,7 +109,7 @@ impl<J: Naming, B: Backend> LockedCell<J, B> {
         ensures more { HasNotedMore (pass_view pass.old.seat) (pass_view pass.new.seat) }
         ensures legal { IsLegal (front pass.new.seat) }
         ensures reports { ReportsEntry B.tells (placement_of J.layout) n e.now (pass_view pass.new.seat) self.old.cell.state.b result }
-        ensures carried { CarriesOut self.old.cell.state n e.now login.now result self.new.cell.state }
+        ensures carried { CarriesOutEntry self.old.cell.state n e.now login.now result self.new.cell.state }
     {
         let caught = self.cell.catch_up(&board.board, n, e, login);
         self.cell.report(&board.board, &mut pass.seat);
@@ -117,7 +117,7 @@ impl<J: Naming, B: Backend> LockedCell<J, B> {
     }
 
     /// Answers a query of transaction `tx`, 0 for none, at a position not below `least`, if it is the cell of backend
-    /// `b`. The cell of another answers `Out`, in a branch that never runs. The pass has heard of it then.
+    /// `b`. The cell of another backend answers `Out`. The pass has heard of the answer then.
     pub fn read(
         &mut self,
         board: &NamedBoard<J>,
@@ -194,15 +194,17 @@ impl<J: Naming, B: Backend> LockedCell<J, B> {
     }
 
     /// Looks where the backend stands: its number, and its position or none if it is out. The pass has heard of it
-    /// then.
+    /// then. A backend that was enabled while no entry was open stands at the end of the log, if no entry came since.
     pub fn look(&mut self, board: &NamedBoard<J>, pass: &mut Pass<J>) -> (u8, Option<u64>)
         ensures more { HasNotedMore (pass_view pass.old.seat) (pass_view pass.new.seat) }
         ensures legal { IsLegal (front pass.new.seat) }
         ensures is { (result.0 ≡ self.old.cell.state.b) × (result.1 ≡ self.old.cell.state.position) }
         ensures noted { IfSome result.1 (λ n. Contains (pass_view pass.new.seat).position_notes (result.0, n)) }
         ensures seen { IsPrefix self.new.cell.view.front (front pass.new.seat) }
+        ensures stands { (m : List Event) → IsPrefix m (front pass.old.seat) → is_free m ≡ true → is_enabled m result.0 ≡ true → length (log (front pass.new.seat)) ≡ length (log m) → result.1 ≡ Some (length (log m)) }
         ensures state { self.new.cell.state ≡ self.old.cell.state }
     {
+        self.cell.brief(&board.board, &mut pass.seat);
         let b = self.cell.number();
         let position = self.cell.position();
         self.cell.report(&board.board, &mut pass.seat);
