@@ -1,9 +1,18 @@
 -- Backends that were made, and not called yet.
-use Rattle.std.proofs.Common.{◌≡◌, ℕ, List, [], All, map, Some, Option, ap}
-use Rattle.std.proofs.lemmas.List.Elements.{All-map, All-weaker}
+use Rattle.std.proofs.Common.{◌≡◌, ◌∙◌, ℕ, ◌+◌, List, [], ◌∷◌, ◌++◌, All, length, map, Some, Option, ap, subst, sym}
+use Rattle.std.proofs.lemmas.List.Elements.{All-map, All-push, All-weaker}
+use Rattle.std.proofs.lemmas.List.{length_push}
 use Rattle.cj_flaky.specs.FlakyBackends.{FlakyState, fresh_over, told_by}
 use Rattle.cj_mem.specs.MemoryBackends.{MemoryState, fresh_state}
 use Rattle.cj_model.specs.declared.database.Slot.{Slot}
+
+-- what holds of all and of one more holds with that one
+pub all_pushed : {X : Type 0} (xs zs : List X) (x : X) → zs ≡ xs ++ x ∷ [] → (P : X → Type 0) → All P xs → P x → All P zs
+all_pushed xs zs x is P all one = subst (All P) (sym is) (All-push P xs x all one)
+
+-- and there is one more
+pub one_longer : {X : Type 0} (xs zs : List X) (x : X) (n : ℕ) → zs ≡ xs ++ x ∷ [] → length xs ≡ n → length zs ≡ n + 1
+one_longer xs zs x n is many = ap length is ∙ (length_push xs x ∙ ap (λ m. m + 1) many)
 
 -- what follows for each one holds of what each is seen as
 seen_each : {X Y : Type 0} (P : X → Type 0) (Q : Y → Type 0) (f : X → Y) → ((x : X) → P x → Q (f x)) → (xs : List X) → All P xs → All Q (map f xs)

@@ -1,7 +1,9 @@
 //! Clients: sessions one after another, each served over what its client sends.
 
-ghost use Rattle.std.specs.Prelude.{◌≡◌, ◌≤◌, ◌^◌, length, IfOk, IfSome};
+ghost use Rattle.std.specs.Prelude.{◌≡◌, ◌≤◌, ◌^◌, true, length, IfOk, IfSome};
+ghost use Rattle.cj_model.specs.declared.request.Request.TheVariants as request;
 ghost use Rattle.cj_model.specs.declared.limits.TheConstants.{USER_LIMIT};
+ghost use Rattle.cj_model.specs.Sql.WrittenRequests.{IsWritten};
 ghost use Rattle.cj_desk.specs.DeskStates.{desk_tx};
 
 use crate::lines::Lines;
@@ -10,7 +12,8 @@ use crate::worker::{Stage, Worker};
 use cj_backend::Backend;
 use cj_control::Naming;
 use cj_desk::{Desk, Written};
-use cj_model::{Act, NoMemory, Reply, Request, Text, USER_LIMIT};
+use cj_macro::rewrite;
+use cj_model::{Act, NoMemory, Reply, Request, Text, USER_LIMIT, Write};
 use cj_outside::{FixedClock, MemSink, MemSource, PcgDraw, Store};
 use cj_session::serve_session;
 use cj_sql::read;
@@ -109,6 +112,36 @@ fn user(alloc: Global) -> Result<Option<Text>, NoMemory>
     }
 }
 
+/// Reads the text of a request, which has no NOW and no RAND then. None if it is none, or memory is wanting.
+fn plain(alloc: Global, text: &[u8]) -> Option<Request>
+    ensures { IfSome result IsWritten }
+{
+    match read(alloc, text) {
+        Ok(request) => Some(rewrite(request, 0, &mut PcgDraw::new(0))),
+        Err(_) => None,
+    }
+}
+
+/// Reads the text of a write. None if it is none, or memory is wanting.
+fn written(alloc: Global, text: &[u8]) -> Option<Write>
+    ensures { IfSome result (λ write. IsWritten (request.Write write)) }
+{
+    match plain(alloc, text) {
+        Some(Request::Write(write)) => Some(write),
+        _ => None,
+    }
+}
+
+/// Whether `BEGIN` reads as what it is. False only where memory is wanting.
+fn reads_as_begin(alloc: Global) -> bool
+    ensures { result ≡ true → IsWritten request.Begin }
+{
+    match plain(alloc, b"BEGIN") {
+        Some(Request::Begin) => true,
+        _ => false,
+    }
+}
+
 /// Tells a reply that has no rows.
 fn tell_reply(lines: &mut Lines, reply: &Reply) -> Result<(), NoMemory> {
     match reply {
@@ -149,12 +182,15 @@ pub fn leave_orphan<J: Naming, B: Backend, S: Store + Drop, R: Wait>(
     worker: &mut Worker<J>,
 ) -> Result<(), NoMemory> {
     let text = drawn_update(stage.alloc, &mut worker.draw)?;
-    let (Some(user), Ok(Request::Write(write))) = (
-        user(stage.alloc)?,
-        read(stage.alloc, text.as_bytes()),
-    ) else {
+    let Some(user) = user(stage.alloc)? else {
         return Ok(());
     };
+    let Some(write) = written(stage.alloc, text.as_bytes()) else {
+        return Ok(());
+    };
+    if !reads_as_begin(stage.alloc) {
+        return Ok(());
+    }
     let Ok(mut caller) = stage.control.caller(rt, &mut worker.pass) else {
         return Ok(());
     };

@@ -146,7 +146,36 @@ fn slow<R: Clock + Copy>(clock: R, plan: Plan, b: u8) -> Slow<R> {
     Slow::new(clock, if lags { LAG } else { 0 }, WRITE)
 }
 
-/// Makes so many empty backends. If some calls fail, those of the first backend do not.
+/// Draws the numbers of the calls of backend `b` that fail. There are none where nothing is to fail, and of the first one.
+fn listed_fails(
+    alloc: Global,
+    draw: &mut PcgDraw,
+    plan: Plan,
+    b: u8,
+) -> Result<ListOf<u64>, NoMemory> {
+    if plan.wrong == Wrong::Backends && b > 0 {
+        drawn_fails(alloc, draw, tried_calls(b))
+    } else {
+        Ok(ListOf::new(alloc))
+    }
+}
+
+/// Makes backend `b`, which is empty.
+fn tried_backend<R: Clock + Copy>(
+    clock: R,
+    alloc: Global,
+    draw: &mut PcgDraw,
+    plan: Plan,
+    b: u8,
+) -> Result<Tried<R>, NoMemory>
+    ensures { IfOk result (λ made. made.inner ≡ fresh_over fresh_state made.inner.fails) }
+{
+    let listed = listed_fails(alloc, draw, plan, b)?;
+    let flaky = Flaky::new(MemBackend::new(alloc), listed);
+    Ok(Gated::new(flaky, slow(clock, plan, b)))
+}
+
+/// Makes so many empty backends.
 fn tried_backends<R: Clock + Copy>(
     clock: R,
     alloc: Global,
@@ -159,13 +188,7 @@ fn tried_backends<R: Clock + Copy>(
     let mut draw = PcgDraw::new(plan.seed.wrapping_add(plan.start));
     let mut backends = Backends::new(alloc);
     for b in 0..count {
-        let listed = if plan.wrong == Wrong::Backends && b > 0 {
-            drawn_fails(alloc, &mut draw, tried_calls(b))?
-        } else {
-            ListOf::new(alloc)
-        };
-        let flaky = Flaky::new(MemBackend::new(alloc), listed);
-        backends.push(Gated::new(flaky, slow(clock, plan, b)))?;
+        backends.push(tried_backend(clock, alloc, &mut draw, plan, b)?)?;
     }
     Ok(backends)
 }
