@@ -1,8 +1,8 @@
 //! Clients: sessions one after another, each served over what its client sends.
 
-ghost use Rattle.std.specs.Prelude.{◌≡◌, ◌≤◌, ◌^◌, true, length, IfOk, IfSome};
-ghost use Rattle.cj_model.specs.declared.request.Request.TheVariants as request;
+ghost use Rattle.std.specs.Prelude.{◌≡◌, ◌≤◌, ◌^◌, length, IfOk, IfSome};
 ghost use Rattle.cj_model.specs.declared.limits.TheConstants.{USER_LIMIT};
+ghost use Rattle.cj_model.specs.declared.request.Request.TheVariants as request;
 ghost use Rattle.cj_model.specs.Sql.WrittenRequests.{IsWritten};
 ghost use Rattle.cj_desk.specs.DeskStates.{desk_tx};
 
@@ -122,26 +122,6 @@ fn plain(alloc: Global, text: &[u8]) -> Option<Request>
     }
 }
 
-/// Reads the text of a write. None if it is none, or memory is wanting.
-fn written(alloc: Global, text: &[u8]) -> Option<Write>
-    ensures { IfSome result (λ write. IsWritten (request.Write write)) }
-{
-    match plain(alloc, text) {
-        Some(Request::Write(write)) => Some(write),
-        _ => None,
-    }
-}
-
-/// Whether `BEGIN` reads as what it is. False only where memory is wanting.
-fn reads_as_begin(alloc: Global) -> bool
-    ensures { result ≡ true → IsWritten request.Begin }
-{
-    match plain(alloc, b"BEGIN") {
-        Some(Request::Begin) => true,
-        _ => false,
-    }
-}
-
 /// Tells a reply that has no rows.
 fn tell_reply(lines: &mut Lines, reply: &Reply) -> Result<(), NoMemory> {
     match reply {
@@ -174,6 +154,28 @@ fn tell_write(
     lines.end()
 }
 
+/// Has a desk begin a transaction, and change a table in it. Returns what came of both. Nothing is changed if no
+/// transaction has begun.
+fn begin_and_change<R, K: Desk<R>>(
+    rt: &R,
+    desk: &mut K,
+    user: &Text,
+    write: Write,
+) -> (Written, Option<Written>)
+    requires few { (K.state_of desk.old).requests ≤ 2 ^ 61 }
+    requires closed { desk_tx (K.state_of desk.old) ≡ 0 }
+    requires short { length user.now ≤ USER_LIMIT }
+    requires begin { IsWritten request.Begin }
+    requires change { IsWritten (request.Write write) }
+{
+    let begun = desk.write(rt, user, 0, Act::Begin);
+    if begun.number == 0 {
+        return (begun, None);
+    }
+    let changed = desk.write(rt, user, begun.number, Act::Write(write));
+    (begun, Some(changed))
+}
+
 /// Opens a session that begins a transaction, changes a table in it, and leaves. The transaction is left open, for the
 /// administrator to end.
 pub fn leave_orphan<J: Naming, B: Backend, S: Store + Drop, R: Wait>(
@@ -182,25 +184,22 @@ pub fn leave_orphan<J: Naming, B: Backend, S: Store + Drop, R: Wait>(
     worker: &mut Worker<J>,
 ) -> Result<(), NoMemory> {
     let text = drawn_update(stage.alloc, &mut worker.draw)?;
-    let Some(user) = user(stage.alloc)? else {
+    let (Some(user), Some(Request::Begin), Some(Request::Write(write))) = (
+        user(stage.alloc)?,
+        plain(stage.alloc, b"BEGIN"),
+        plain(stage.alloc, text.as_bytes()),
+    ) else {
         return Ok(());
     };
-    let Some(write) = written(stage.alloc, text.as_bytes()) else {
-        return Ok(());
-    };
-    if !reads_as_begin(stage.alloc) {
-        return Ok(());
-    }
     let Ok(mut caller) = stage.control.caller(rt, &mut worker.pass) else {
         return Ok(());
     };
     let session = Desk::<R>::session(&caller);
-    let begun = caller.write(rt, &user, 0, Act::Begin);
+    let (begun, changed) = begin_and_change(rt, &mut caller, &user, write);
+    stage.control.leave(rt, caller, &mut worker.pass);
     tell_write(&mut worker.lines, session, "BEGIN", &begun)?;
-    if begun.number > 0 {
-        let changed = caller.write(rt, &user, begun.number, Act::Write(write));
+    if let Some(changed) = changed {
         tell_write(&mut worker.lines, session, text.as_str(), &changed)?;
     }
-    stage.control.leave(rt, caller, &mut worker.pass);
     stage.add_orphan(rt, begun.number)
 }
