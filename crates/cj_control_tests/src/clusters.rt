@@ -1,0 +1,140 @@
+//! Clusters over two backends that have every table, the scenes that are played there, and sessions.
+
+use crate::frames::{accepted, session};
+use cj_backend::Backend;
+use cj_balance::Balancer;
+use cj_book::BookParts;
+use cj_cache::Cache;
+use cj_cluster::SessionEnd;
+use cj_conf::{Conf, read_conf};
+use cj_control::Control;
+use cj_core::{Backends, Parts, Shared, World};
+use cj_locked::{Naming, Pass};
+use cj_model::NoMemory;
+use cj_outside::{FixedClock, ListDraw, MemSink, MemSource, MemStore};
+use cj_session::serve_session;
+use std::alloc::Global;
+use std::marker::Brand;
+use std::process::Abort;
+use std::sync::Wait;
+use std::sync::ledger::Blank;
+use std::test::Fail;
+use std::thread::Threads;
+
+/// Two backends in memory that each have every table, read in turn, and one user.
+const CONF: &str = r#"level = "raidb1"
+cache = 64
+backends = [{ name = "b0", kind = "memory" }, { name = "b1", kind = "memory" }]
+users = [{ name = "ann", sha256 = "2bb80d537b1da3e38bd30361aa855686bde0eacd7162fef6a25fe97bf527a25b", logins = ["l0", "l1"] }]
+"#;
+
+/// What happens at a cluster that was just started. It is a type, since the cluster's names are picked once, in
+/// `play`.
+pub trait Scene<B: Backend, R> {
+    fn play<J: Naming + Send + Sync>(
+        &self,
+        rt: &R,
+        alloc: Global,
+        control: Control<J, B, MemStore>,
+        pass: Pass<J>,
+    ) -> Result<(), Fail>;
+}
+
+/// What the configuration makes of a world.
+fn parts(rt: &impl Abort, alloc: Global) -> Result<Parts, NoMemory> {
+    let Ok(conf) = read_conf(alloc, CONF.as_bytes()) else {
+        panic!(rt; "the configuration is refused")
+    };
+    let Conf {
+        placement,
+        accounts,
+        policy,
+        weights,
+        cache,
+        ..
+    } = conf;
+    assert!(rt; placement.count() == 2);
+    Ok(Parts {
+        book: BookParts {
+            placement,
+            balancer: Balancer::new(policy, weights),
+            cache: Cache::new(alloc, cache)?,
+        },
+        accounts,
+    })
+}
+
+/// Starts a world over two empty backends and an empty log, whose store fails at these calls, and takes it apart.
+fn started<B: Backend + Drop>(
+    rt: &impl Abort,
+    alloc: Global,
+    one: B,
+    other: B,
+    log_fails: Vec<u64>,
+) -> Result<Shared<B, MemStore>, NoMemory> {
+    let mut backends = Backends::new(alloc);
+    backends.push(one)?;
+    backends.push(other)?;
+    let log = MemStore::new(Vec::new(alloc), log_fails);
+    match World::start(alloc, parts(rt, alloc)?, log, backends) {
+        Ok(world) => Ok(world.into_shared()),
+        Err(_) => panic!(rt; "the world does not start"),
+    }
+}
+
+/// Plays the scene at the cluster of these parts.
+fn play_at<J: Naming + Send + Sync, B: Backend + Drop, T: Scene<B, R>, R: Abort>(
+    rt: &R,
+    alloc: Global,
+    shared: Shared<B, MemStore>,
+    blank: Blank,
+    scene: &T,
+) -> Result<(), Fail> {
+    match Control::<J, B, MemStore>::start(alloc, shared, blank) {
+        Ok((control, pass)) => scene.play::<J>(rt, alloc, control, pass),
+        Err(_) => panic!(rt; "memory"),
+    }
+}
+
+/// Plays the scene at a new cluster over these backends. The store of its log fails at these calls.
+pub fn play<B: Backend + Drop, T: Scene<B, R>, R: Abort>(
+    rt: &R,
+    alloc: Global,
+    one: B,
+    other: B,
+    log_fails: Vec<u64>,
+    scene: &T,
+) -> Result<(), Fail> {
+    let shared = started(rt, alloc, one, other, log_fails)?;
+    play_at::<Brand, B, T, R>(rt, alloc, shared, Blank::new(1), scene)
+}
+
+/// Serves a session that sends these bytes, until its input ends, and compares what it is sent.
+pub fn check<J: Naming, B: Backend, R: Wait + Abort>(
+    rt: &R,
+    alloc: Global,
+    control: &Control<J, B, MemStore>,
+    pass: &mut Pass<J>,
+    sent: &[u8],
+    replies: &[&[u8]],
+) -> Result<(), NoMemory> {
+    let Ok(mut caller) = control.caller(rt, pass) else {
+        panic!(rt; "no session")
+    };
+    let mut source = MemSource::new(sent.to_vec(alloc)?, Vec::new(alloc));
+    let mut sink = MemSink::new(Vec::new(alloc), Vec::new(alloc));
+    let mut draws = ListDraw::new(Vec::new(alloc));
+    let end = serve_session(
+        rt,
+        alloc,
+        &mut caller,
+        &mut source,
+        &mut sink,
+        &FixedClock::new(0),
+        &mut draws,
+    );
+    control.leave(rt, caller, pass);
+    assert!(rt; end == SessionEnd::Eof);
+    assert!(rt; sink.content() == accepted(alloc, replies)?.as_slice());
+    Ok(())
+}
