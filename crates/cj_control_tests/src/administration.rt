@@ -1,13 +1,17 @@
 //! What the administrator is answered.
 
-use crate::clusters::{Scene, play};
+ghost use Rattle.std.specs.Prelude.{◌≡◌, ◌<◌};
+ghost use Rattle.cj_model.specs.declared.limits.TheConstants.{REQUEST_LIMIT};
+ghost use Rattle.cj_desk.specs.DeskStates.{desk_tx};
+
+use crate::clusters::{Scene, name, play};
 use cj_backend::Backend;
 use cj_control::{AdminError, Control};
 use cj_desk::Desk;
 use cj_flaky::Flaky;
 use cj_locked::{Naming, Pass};
 use cj_mem::MemBackend;
-use cj_model::{Act, ListOf, Name, Request, Text, USER_LIMIT};
+use cj_model::{Act, ListOf, Request, Text, USER_LIMIT};
 use cj_outside::MemStore;
 use cj_sql::read;
 use std::alloc::Global;
@@ -27,7 +31,7 @@ impl<R: Wait + Abort> Scene<MemBackend, R> for Asked {
     ) -> Result<(), Fail> {
         assert!(rt; control.disable(rt, &mut pass, 1) == Ok(()));
         assert!(rt; control.disable(rt, &mut pass, 1) == Err(AdminError::NotEnabled));
-        let name = Name::of(b"c").ok_or("no name")?;
+        let name = name(rt);
         assert!(rt; control.checkpoint(rt, &mut pass, &name) == Ok(0));
         assert!(rt; control.checkpoint(rt, &mut pass, &name) == Err(AdminError::NameTaken));
         assert!(rt; control.abort_orphan(rt, &mut pass, 7) == Err(AdminError::NotOrphan(7)));
@@ -43,7 +47,10 @@ fn a_backend_is_disabled_once_and_a_name_is_given_once(rt: HostRuntime) -> Resul
 }
 
 /// Has a new session begin a transaction, and returns its number.
-fn begun<R: Abort, K: Desk<R>>(rt: &R, alloc: Global, desk: &mut K) -> Result<u64, Fail> {
+fn begun<R: Abort, K: Desk<R>>(rt: &R, alloc: Global, desk: &mut K) -> Result<u64, Fail>
+    requires room { (K.state_of desk.old).requests < REQUEST_LIMIT }
+    requires closed { desk_tx (K.state_of desk.old) ≡ 0 }
+{
     let user = Text::of(b"ann".to_vec(alloc)?).ok_or("no text")?;
     assert!(rt; user.len() <= USER_LIMIT);
     let Ok(Request::Begin) = read(alloc, b"BEGIN") else {

@@ -1,6 +1,13 @@
 //! Clusters over two backends that have every table, the scenes that are played there, and sessions.
 
-use crate::frames::{accepted, session};
+ghost use Rattle.std.specs.Prelude.{◌≡◌, ◌≢◌, ◌≤◌, true, [], length, vec_capacity, IfOk, Some};
+ghost use Rattle.cj_model.specs.declared.limits.TheConstants.{BACKEND_LIMIT};
+ghost use Rattle.cj_model.specs.Cluster.Caching.{empty_cache};
+ghost use Rattle.cj_outside.specs.Memory.{State};
+ghost use Rattle.cj_board.specs.Seats.{board_id, pass_board};
+ghost use Rattle.cj_control.specs.Starting.{AreOfStarted};
+
+use crate::frames::accepted;
 use cj_backend::Backend;
 use cj_balance::Balancer;
 use cj_book::BookParts;
@@ -10,7 +17,7 @@ use cj_conf::{Conf, read_conf};
 use cj_control::Control;
 use cj_core::{Backends, Parts, Shared, World};
 use cj_locked::{Naming, Pass};
-use cj_model::NoMemory;
+use cj_model::{Name, NoMemory};
 use cj_outside::{FixedClock, ListDraw, MemSink, MemSource, MemStore};
 use cj_session::serve_session;
 use std::alloc::Global;
@@ -37,11 +44,16 @@ pub trait Scene<B: Backend, R> {
         alloc: Global,
         control: Control<J, B, MemStore>,
         pass: Pass<J>,
-    ) -> Result<(), Fail>;
+    ) -> Result<(), Fail>
+        requires { length J.layout.names ≡ 2 };
 }
 
 /// What the configuration makes of a world.
-fn parts(rt: &impl Abort, alloc: Global) -> Result<Parts, NoMemory> {
+fn parts(rt: &impl Abort, alloc: Global) -> Result<Parts, NoMemory>
+    ensures two { IfOk result (λ parts. length parts.book.placement.names ≡ 2) }
+    ensures registered { IfOk result (λ parts. parts.accounts.backends ≡ length parts.book.placement.names) }
+    ensures cache { IfOk result (λ parts. parts.book.cache ≡ empty_cache parts.book.cache.capacity) }
+{
     let Ok(conf) = read_conf(alloc, CONF.as_bytes()) else {
         panic!(rt; "the configuration is refused")
     };
@@ -71,7 +83,13 @@ fn started<B: Backend + Drop>(
     one: B,
     other: B,
     log_fails: Vec<u64>,
-) -> Result<Shared<B, MemStore>, NoMemory> {
+) -> Result<Shared<B, MemStore>, NoMemory>
+    requires empty { B.tells ≡ true → (B.told one ≡ Some []) × (B.told other ≡ Some []) }
+    requires none { (B.begun one ≡ []) × (B.begun other ≡ []) }
+    ensures world { IfOk result (λ shared. AreOfStarted B.tells true (λ (store : State). store.faults) (board_id shared.board) (pass_board shared.pass) shared.book shared.recovery_log shared.cells.items shared.accounts shared.dumps) }
+    ensures emptied { IfOk result (λ shared. (length shared.emptied.items ≡ 0) × (BACKEND_LIMIT ≤ vec_capacity shared.emptied)) }
+    ensures two { IfOk result (λ shared. length shared.book.state.layout.names ≡ 2) }
+{
     let mut backends = Backends::new(alloc);
     backends.push(one)?;
     backends.push(other)?;
@@ -89,7 +107,15 @@ fn play_at<J: Naming + Send + Sync, B: Backend + Drop, T: Scene<B, R>, R: Abort>
     shared: Shared<B, MemStore>,
     blank: Blank,
     scene: &T,
-) -> Result<(), Fail> {
+) -> Result<(), Fail>
+    requires world { AreOfStarted B.tells true (λ (store : State). store.faults) (board_id shared.board) (pass_board shared.pass) shared.book shared.recovery_log shared.cells.items shared.accounts shared.dumps }
+    requires board { board_id shared.board ≡ J.board }
+    requires layout { shared.book.state.layout ≡ J.layout }
+    requires turn { (blank.name ≡ J.turn) × (blank.parts ≡ 1) }
+    requires tells { J.tells ≡ B.tells }
+    requires emptied { (length shared.emptied.items ≡ 0) × (BACKEND_LIMIT ≤ vec_capacity shared.emptied) }
+    requires two { length shared.book.state.layout.names ≡ 2 }
+{
     match Control::<J, B, MemStore>::start(alloc, shared, blank) {
         Ok((control, pass)) => scene.play::<J>(rt, alloc, control, pass),
         Err(_) => panic!(rt; "memory"),
@@ -104,9 +130,23 @@ pub fn play<B: Backend + Drop, T: Scene<B, R>, R: Abort>(
     other: B,
     log_fails: Vec<u64>,
     scene: &T,
-) -> Result<(), Fail> {
+) -> Result<(), Fail>
+    requires empty { B.tells ≡ true → (B.told one ≡ Some []) × (B.told other ≡ Some []) }
+    requires none { (B.begun one ≡ []) × (B.begun other ≡ []) }
+{
     let shared = started(rt, alloc, one, other, log_fails)?;
     play_at::<Brand, B, T, R>(rt, alloc, shared, Blank::new(1), scene)
+}
+
+/// The name of a checkpoint.
+pub fn name(rt: &impl Abort) -> Name
+    ensures { result ≢ [] }
+{
+    let Some(name) = Name::of(b"c") else {
+        panic!(rt; "no name")
+    };
+    assert!(rt; !name.as_slice().is_empty());
+    name
 }
 
 /// Serves a session that sends these bytes, until its input ends, and compares what it is sent.

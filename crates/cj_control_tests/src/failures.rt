@@ -1,13 +1,13 @@
 //! Backends and a log that fail again and again, and many sessions. The turn is given back each time.
 
-use crate::clusters::{Scene, check, play};
+use crate::clusters::{Scene, check, name, play};
 use crate::frames::{DONE_0, DONE_1, session};
 use cj_control::{AdminError, Control};
 use cj_desk::Desk;
 use cj_flaky::Flaky;
 use cj_locked::{Naming, Pass};
 use cj_mem::MemBackend;
-use cj_model::{ListOf, Name};
+use cj_model::ListOf;
 use cj_outside::MemStore;
 use std::alloc::Global;
 use std::process::Abort;
@@ -68,7 +68,7 @@ impl<R: Wait + Abort> Scene<Flaky<MemBackend>, R> for FailingBackends {
         ];
         check(rt, alloc, &control, &mut pass, &sent, &replies)?;
         assert!(rt; control.disable(rt, &mut pass, 0) == Err(AdminError::NotEnabled));
-        let name = Name::of(b"c").ok_or("no name")?;
+        let name = name(rt);
         assert!(rt; control.checkpoint(rt, &mut pass, &name) == Ok(3));
         let text = control.audit(rt, &mut pass)?;
         assert!(rt; text.is_empty());
@@ -102,7 +102,7 @@ impl<R: Wait + Abort> Scene<MemBackend, R> for FailingLog {
         let sent = session(alloc, &[CREATE, "BEGIN", "SELECT k FROM t"])?;
         let replies = [LOG_FAULT, LOG_FAULT, NO_TABLE];
         check(rt, alloc, &control, &mut pass, &sent, &replies)?;
-        let name = Name::of(b"c").ok_or("no name")?;
+        let name = name(rt);
         assert!(rt; control.checkpoint(rt, &mut pass, &name) == Err(AdminError::LogFault));
         let sent = session(alloc, &[CREATE, CREATE])?;
         check(rt, alloc, &control, &mut pass, &sent, &[LOG_FAULT, DONE_0])?;
