@@ -4,6 +4,7 @@ ghost use Rattle.std.specs.Prelude.{◌≡◌, ◌≢◌, ◌≤◌, true, [], l
 ghost use Rattle.cj_model.specs.declared.limits.TheConstants.{BACKEND_LIMIT};
 ghost use Rattle.cj_model.specs.Cluster.Caching.{empty_cache};
 ghost use Rattle.cj_outside.specs.Memory.{State};
+ghost use Rattle.cj_conf.specs.Confs.{IsUsable};
 ghost use Rattle.cj_board.specs.Seats.{board_id, pass_board};
 ghost use Rattle.cj_control.specs.Starting.{AreOfStarted};
 
@@ -48,15 +49,22 @@ pub trait Scene<B: Backend, R> {
         requires { length J.layout.names ≡ 2 };
 }
 
+/// The configuration of a text. In a function with the text itself, the search would compute what it gives.
+fn conf_of(rt: &impl Abort, alloc: Global, text: &str) -> Conf
+    ensures { IsUsable result }
+{
+    match read_conf(alloc, text.as_bytes()) {
+        Ok(conf) => conf,
+        Err(_) => panic!(rt; "the configuration is refused"),
+    }
+}
+
 /// What the configuration makes of a world.
 fn parts(rt: &impl Abort, alloc: Global) -> Result<Parts, NoMemory>
     ensures two { IfOk result (λ parts. length parts.book.placement.names ≡ 2) }
     ensures registered { IfOk result (λ parts. parts.accounts.backends ≡ length parts.book.placement.names) }
     ensures cache { IfOk result (λ parts. parts.book.cache ≡ empty_cache parts.book.cache.capacity) }
 {
-    let Ok(conf) = read_conf(alloc, CONF.as_bytes()) else {
-        panic!(rt; "the configuration is refused")
-    };
     let Conf {
         placement,
         accounts,
@@ -64,7 +72,7 @@ fn parts(rt: &impl Abort, alloc: Global) -> Result<Parts, NoMemory>
         weights,
         cache,
         ..
-    } = conf;
+    } = conf_of(rt, alloc, CONF);
     assert!(rt; placement.count() == 2);
     Ok(Parts {
         book: BookParts {
