@@ -102,7 +102,7 @@ impl Gate for Meeting {
     }
 }
 
-fn meeting(mine: &Flag, other: &Flag, missed: &Flag) -> Result<Meeting, Fail> {
+fn gate_between(mine: &Flag, other: &Flag, missed: &Flag) -> Result<Meeting, Fail> {
     Ok(Meeting {
         mine: Arc::try_clone(mine)?,
         other: Arc::try_clone(other)?,
@@ -142,8 +142,8 @@ fn a_read_is_answered_while_another_is_asked(rt: HostRuntime) -> Result<(), Fail
     let left = Arc::new(alloc, AtomicU64::new(0))?;
     let right = Arc::new(alloc, AtomicU64::new(0))?;
     let missed = Arc::new(alloc, AtomicU64::new(0))?;
-    let one = Gated::new(MemBackend::new(alloc), meeting(&left, &right, &missed)?);
-    let other = Gated::new(MemBackend::new(alloc), meeting(&right, &left, &missed)?);
+    let one = Gated::new(MemBackend::new(alloc), gate_between(&left, &right, &missed)?);
+    let other = Gated::new(MemBackend::new(alloc), gate_between(&right, &left, &missed)?);
     play(&rt, alloc, one, other, Vec::new(alloc), &TwoReads)?;
     assert!(rt; missed.load(Ordering::SeqCst) == 0);
     Ok(())
