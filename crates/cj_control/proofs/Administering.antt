@@ -15,13 +15,13 @@ use Rattle.cj_book.specs.declared.pending.Prepared.{Prepared}
 use Rattle.cj_log.specs.declared.error.LogError.{LogError}
 use Rattle.cj_log.specs.declared.item.LogItem.{LogItem}
 use Rattle.cj_recovery.specs.Openings.{entry_item}
-use Rattle.cj_locked.specs.Changes.{BringsAt, BringsSince}
-use Rattle.cj_locked.specs.Marking.{MarksAt, MarksSince, RefusesMark}
-use Rattle.cj_locked.specs.Orphans.{BeginsAbortSince, IsAbortOf, RefusesAbort, RefusesAppendedAt, RefusesAppendedSince, SchedulesAbortSince}
-use Rattle.cj_locked.specs.Writing.{EndsSince, FollowsAppend, HoldsAppended, HoldsEntry}
-use Rattle.cj_control.specs.Administration.{AbortsSince, CanRefuse, ChecksAt, ChecksSince, DisablesAt, DisablesSince, EndsOrphanSince, IsRefusalOf, RefusesOrphanAt, RefusesOrphanSince}
+use Rattle.cj_locked.specs.Changes.{BringsSince}
+use Rattle.cj_locked.specs.Marking.{MarksSince, RefusesMark}
+use Rattle.cj_locked.specs.Orphans.{BeginsAbortSince, IsAbortOf, RefusesAbort, RefusesAppendedSince, SchedulesAbortSince}
+use Rattle.cj_locked.specs.Writing.{EndsSince, FollowsAppend, HoldsAppended}
+use Rattle.cj_control.specs.Administration.{AbortsSince, CanRefuse, ChecksSince, DisablesSince, EndsOrphanSince, IsRefusalOf, RefusesOrphanSince}
 use Rattle.cj_control.specs.declared.administration.AdminError.{AdminError}
-use Rattle.cj_control.specs.declared.administration.AdminError.TheVariants.{NotEnabled, NameTaken, NotOrphan, HistoryFull, LogFault, Fault, NoMemory}
+use Rattle.cj_control.specs.declared.administration.AdminError.TheVariants.{NotEnabled, NameTaken, NotOrphan}
 
 -- ---- a backend is disabled
 

@@ -18,8 +18,9 @@ use Rattle.cj_cluster.proofs.Pushed.{at-prefix, ends-prefix, length-ends, log-pr
 use Rattle.cj_model.specs.declared.database.Slot.{Slot}
 use Rattle.cj_model.specs.Cluster.Placements.{Placement, part}
 use Rattle.cj_board.specs.Points.{max_word}
-use Rattle.cj_locked.specs.Auditing.{HoldsTurn, IsHeldOver, NotesFault}
-use Rattle.cj_locked.specs.Passes.{HasNotedMore}
+use Rattle.cj_locked_cell.specs.Asking.{NotesFault}
+use Rattle.cj_locked.specs.Auditing.{HoldsTurn, IsHeldOver}
+use Rattle.cj_pass.specs.Passes.{HasNotedMore}
 use Rattle.cj_control.specs.Auditing.{FailsAudit, audit_lines_at, audit_text_of}
 use Rattle.cj_control.specs.declared.administration.AdminError.{AdminError}
 use Rattle.cj_control.specs.declared.administration.AdminError.TheVariants.{NotEnabled, NameTaken, NotOrphan, HistoryFull, LogFault, Fault, NoMemory}

@@ -1,5 +1,5 @@
 -- What a session's calls come to, as those of a desk.
-use Rattle.std.proofs.Common.{◌≡◌, ◌⊎◌, inl, ℕ, zero, suc, ◌+◌, ◌-◌, ◌<◌, ◌≤◌, Bool, List, [], length, slice_get, Some, All, refl, ap, sym, ◌∙◌, subst, arith}
+use Rattle.std.proofs.Common.{◌≡◌, ℕ, zero, suc, ◌+◌, ◌-◌, ◌<◌, ◌≤◌, Bool, List, [], length, slice_get, Some, refl, ap, sym, ◌∙◌, subst, arith}
 use mathlib.Core.List.{IsPrefix}
 use Rattle.std.proofs.lemmas.List.Elements.{All-nil, All-weaker}
 use Rattle.cj_auth.specs.Admission.{Register}
@@ -14,21 +14,21 @@ use Rattle.cj_model.specs.Database.Inserts.{refusal_of_code}
 use Rattle.cj_model.specs.Sql.PlainRequests.{request_of}
 use Rattle.cj_cluster.specs.declared.event.Event.{Event}
 use Rattle.cj_cluster.specs.History.Histories.{log, tx_of}
-use Rattle.cj_cluster.specs.History.Legality.{FitsTx, IsFitEntry, IsLegal, IsSessionEntry}
-use Rattle.cj_cluster.specs.History.Turns.{entry_count_of, tx_after_entry}
+use Rattle.cj_cluster.specs.History.Legality.{FitsTx, IsLegal, IsSessionEntry}
+use Rattle.cj_cluster.specs.History.Turns.{tx_after_entry}
 use Rattle.cj_cluster.proofs.Pushed.{log-prefix, prefix_length}
 use Rattle.cj_board.specs.declared.view.SeatView.{SeatView}
 use Rattle.cj_board.specs.Counting.{event_count_of}
 use Rattle.cj_board.proofs.Counts.{counts_of_prefix}
 use Rattle.cj_book.specs.declared.error.BookError.TheVariants as errors
-use Rattle.cj_desk.specs.DeskStates.{desk_tx, next_call, turn_taken, tx_after_write, CanAskDesk, DeskState, DeskSteps, IsEntryNumber}
-use Rattle.cj_locked.specs.Passes.{HasSeenMore}
-use Rattle.cj_locked.specs.Writing.{AreUpTo, RefusesSince, WritesTurn}
+use Rattle.cj_desk.specs.DeskStates.{desk_tx, next_call, turn_taken, tx_after_write, DeskState, DeskSteps, IsEntryNumber}
+use Rattle.cj_pass.specs.Passes.{HasSeenMore}
+use Rattle.cj_locked.specs.Writing.{AreUpTo, WritesTurn}
 use Rattle.cj_locked.proofs.Reading.{read_leaves}
 use Rattle.cj_locked.proofs.Writing.{turn_refused}
 use Rattle.cj_place.specs.Layouts.{placement_of, Layout}
 use Rattle.cj_control.specs.Callers.{desk_at}
-use Rattle.cj_control.specs.Writing.{least_after}
+use Rattle.cj_locks.specs.Writing.{least_after}
 
 -- the position after a write is the entry's, if it has one
 pub least_none : (number least : ℕ) → number ≡ 0 → least ≡ least_after number least
@@ -58,6 +58,12 @@ pub none_newer : (s : ℕ) (h : List Event) → 0 < s → IsLegal h → event_co
 none_newer s h some legal none =
     let few : event_count_of s h ≤ event_count_of s [] = omega (arith, none) in
     (read_leaves s [] h some legal (h, refl) few).2 0 (All-nil (λ (d : Entry). d.session ≡ s → d.seq ≤ 0))
+
+-- and no open transaction
+pub no_transaction : (s : ℕ) (h : List Event) → 0 < s → IsLegal h → event_count_of s h ≡ 0 → tx_of (log h) s ≡ 0
+no_transaction s h some legal none =
+    let few : event_count_of s h ≤ event_count_of s [] = omega (arith, none) in
+    (read_leaves s [] h some legal (h, refl) few).0
 
 -- ---- the session's next entry
 

@@ -1,6 +1,4 @@
 pub mod Administering
 pub mod Auditing
 pub mod Callers
-pub mod Reading
 pub mod Starting
-pub mod Writing

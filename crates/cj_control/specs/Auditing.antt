@@ -6,7 +6,7 @@ use Rattle.cj_audit.specs.Audits.{backend_lines}
 use Rattle.cj_cluster.specs.declared.event.Event.{Event}
 use Rattle.cj_cluster.specs.History.Histories.{database_after, is_enabled, log}
 use Rattle.cj_board.specs.declared.view.SeatView.{SeatView}
-use Rattle.cj_locked.specs.Auditing.{NotesFault}
+use Rattle.cj_locked_cell.specs.Asking.{NotesFault}
 use Rattle.cj_control.specs.declared.administration.AdminError.{AdminError}
 use Rattle.cj_control.specs.declared.administration.AdminError.TheVariants.{NotEnabled, NameTaken, NotOrphan, HistoryFull, LogFault, Fault, NoMemory}
 

@@ -1,6 +1,4 @@
 pub mod Administration
 pub mod Auditing
 pub mod Callers
-pub mod Reading
 pub mod Starting
-pub mod Writing

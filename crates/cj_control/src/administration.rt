@@ -1,27 +1,26 @@
 //! What the administrator does at the book: disables a backend, marks a checkpoint, ends an orphan.
 
-ghost use Rattle.std.specs.Prelude.{◌≡◌, ◌≢◌, ◌<◌, ℕ, [], true, false, length, None, IfErr, IfOk, IfSome, IsNone, is_none};
+ghost use Rattle.std.specs.Prelude.{◌≡◌, ◌≢◌, ◌<◌, ℕ, [], true, false, length, None, IfErr, IfOk};
 ghost use Rattle.cj_model.specs.Cluster.Masks.{in_mask};
-ghost use Rattle.cj_cluster.specs.declared.event.Event.TheVariants.{Disabled};
-ghost use Rattle.cj_cluster.specs.History.Histories.{has_marker, is_enabled};
+ghost use Rattle.cj_cluster.specs.History.Histories.{is_enabled};
 ghost use Rattle.cj_cluster.specs.History.Legality.{IsLegal};
 ghost use Rattle.cj_place.specs.Layouts.{placement_of};
 ghost use Rattle.cj_board.specs.Seats.{front, pass_view};
 ghost use Rattle.cj_book.specs.Books as books;
-ghost use Rattle.cj_locked.specs.Changes.{BringsSince};
-ghost use Rattle.cj_locked.specs.Marking.{BeginsMarkSince, HoldsMarked, MarksSince, RefusesMark};
-ghost use Rattle.cj_locked.specs.Orphans.{BeginsAbortSince, IsAbortOf, RefusesAbort, RefusesAppendedSince, SchedulesAbortSince};
-ghost use Rattle.cj_locked.specs.Passes.{HasNotedMore, HasSeenMore};
+ghost use Rattle.cj_locked.specs.Marking.{HoldsMarked, MarksSince};
+ghost use Rattle.cj_locked.specs.Orphans.{BeginsAbortSince, IsAbortOf, RefusesAppendedSince, SchedulesAbortSince};
+ghost use Rattle.cj_pass.specs.Passes.{HasNotedMore, HasSeenMore};
 ghost use Rattle.cj_locked.specs.Writing.{HoldsAppended, HoldsEntry};
 ghost use Rattle.cj_control.specs.Administration.{CanRefuse, ChecksSince, DisablesSince, EndsOrphanSince, IsRefusalOf};
 
 use crate::control::Control;
 use cj_backend::Backend;
 use cj_book::{BookError, Prepared};
-use cj_locked::{Begun, BegunAbort, BegunMarker, LockedBook, Naming, OpenEntry, Pass, Turn};
+use cj_locked::{Begun, BegunAbort, BegunMarker, LockedBook, OpenEntry, Turn};
 use cj_log::LogError;
 use cj_model::{Entry, Name};
 use cj_outside::Store;
+use cj_pass::{Naming, Pass};
 use std::sync::Wait;
 use thiserror::Error;
 
@@ -62,23 +61,6 @@ fn refusal_of(error: BookError) -> AdminError
 }
 
 impl<J: Naming, B: Backend, S: Store + Drop> Control<J, B, S> {
-    /// Waits for the turn, and disables the backend. False if it is disabled already.
-    fn disable_in_turn<R: Wait>(&self, rt: &R, pass: &mut Pass<J>, b: u8) -> Result<bool, BookError>
-        requires below { b < length J.layout.names }
-        ensures brings { BringsSince (front pass.old.seat) (front pass.new.seat) (Disabled b) (λ h. is_enabled h b) result }
-        ensures more { HasNotedMore (pass_view pass.old.seat) (pass_view pass.new.seat) }
-        ensures legal { IsLegal (front pass.new.seat) }
-    {
-        let mut book = self.turn_back.wait_while(
-            rt,
-            self.book.lock(rt),
-            |x: &mut LockedBook<J, S>| -> bool
-                ensures { result ≡ is_none x.new.log }
-            { x.is_taken() },
-        );
-        book.disable(&self.board, pass, b)
-    }
-
     /// Disables a backend, so that it takes no further entry and answers no query. Waits for the turn.
     pub fn disable<R: Wait>(&self, rt: &R, pass: &mut Pass<J>, b: u8) -> Result<(), AdminError>
         requires below { b < length J.layout.names }
@@ -86,37 +68,16 @@ impl<J: Naming, B: Backend, S: Store + Drop> Control<J, B, S> {
         ensures more { HasNotedMore (pass_view pass.old.seat) (pass_view pass.new.seat) }
         ensures legal { IsLegal (front pass.new.seat) }
     {
-        let disabled = self.disable_in_turn(rt, pass, b);
-        self.turn_back.notify_one();
+        let disabled = self
+            .locks
+            .wait_for_turn(rt)
+            .disable(&self.locks.board, pass, b);
+        self.locks.turn_back.notify_one();
         match disabled {
             Ok(true) => Ok(()),
             Ok(false) => Err(AdminError::NotEnabled),
             Err(error) => Err(refusal_of(error)),
         }
-    }
-
-    /// Waits for the turn, and begins a checkpoint's marker. None if a marker has the name.
-    fn begin_checkpoint<R: Wait>(
-        &self,
-        rt: &R,
-        pass: &mut Pass<J>,
-        name: &Name,
-    ) -> Result<Option<BegunMarker<J, S>>, BookError>
-        requires named { name.now ≢ [] }
-        ensures ok { IfOk result (λ begun. IfSome begun (λ x. BeginsMarkSince S.tells S.faults (front pass.old.seat) (front pass.new.seat) name.now None x.turn.share.amount x.turn.log x.item)) }
-        ensures taken { IfOk result (λ begun. IsNone begun → has_marker (front pass.new.seat) name.now ≡ true) }
-        ensures err { IfErr result (RefusesMark (front pass.new.seat)) }
-        ensures more { HasNotedMore (pass_view pass.old.seat) (pass_view pass.new.seat) }
-        ensures legal { IsLegal (front pass.new.seat) }
-    {
-        let mut book = self.turn_back.wait_while(
-            rt,
-            self.book.lock(rt),
-            |x: &mut LockedBook<J, S>| -> bool
-                ensures { result ≡ is_none x.new.log }
-            { x.is_taken() },
-        );
-        book.begin_marker(&self.board, pass, name, None)
     }
 
     /// Finishes a marker that was begun, gives the turn back, and wakes those who wait for it.
@@ -134,11 +95,12 @@ impl<J: Naming, B: Backend, S: Store + Drop> Control<J, B, S> {
         ensures legal { IsLegal (front pass.new.seat) }
     {
         let marked = self
+            .locks
             .book
             .lock(rt)
-            .finish_marker(&self.board, pass, turn, name, None, appended);
-        self.settled.notify_all();
-        self.turn_back.notify_one();
+            .finish_marker(&self.locks.board, pass, turn, name, None, appended);
+        self.locks.settled.notify_all();
+        self.locks.turn_back.notify_one();
         marked
     }
 
@@ -155,7 +117,10 @@ impl<J: Naming, B: Backend, S: Store + Drop> Control<J, B, S> {
         ensures more { HasNotedMore (pass_view pass.old.seat) (pass_view pass.new.seat) }
         ensures legal { IsLegal (front pass.new.seat) }
     {
-        let begun = self.begin_checkpoint(rt, pass, name);
+        let begun = self
+            .locks
+            .wait_for_turn(rt)
+            .begin_marker(&self.locks.board, pass, name, None);
         match begun {
             Ok(Some(begun)) => {
                 let BegunMarker { item, mut turn } = begun;
@@ -167,69 +132,18 @@ impl<J: Naming, B: Backend, S: Store + Drop> Control<J, B, S> {
                 }
             }
             Ok(None) => {
-                self.turn_back.notify_one();
+                self.locks.turn_back.notify_one();
                 Err(AdminError::NameTaken)
             }
             Err(error) => {
-                self.turn_back.notify_one();
+                self.locks.turn_back.notify_one();
                 Err(refusal_of(error))
             }
         }
     }
 
-    /// Waits for the turn, and begins the entry that ends an orphan. None if the transaction is no orphan.
-    fn begin_abort<R: Wait>(
-        &self,
-        rt: &R,
-        pass: &mut Pass<J>,
-        tx: u64,
-    ) -> Result<Option<BegunAbort<J, S>>, BookError>
-        ensures ok { IfOk result (λ begun. IfSome begun (λ x. BeginsAbortSince S.tells S.faults (placement_of J.layout) (front pass.old.seat) (front pass.new.seat) tx x.entry x.copy x.begun.prepared x.begun.turn.share.amount x.begun.turn.log x.begun.item)) }
-        ensures err { IfErr result (RefusesAbort (front pass.new.seat)) }
-        ensures more { HasNotedMore (pass_view pass.old.seat) (pass_view pass.new.seat) }
-        ensures legal { IsLegal (front pass.new.seat) }
-    {
-        let mut book = self.turn_back.wait_while(
-            rt,
-            self.book.lock(rt),
-            |x: &mut LockedBook<J, S>| -> bool
-                ensures { result ≡ is_none x.new.log }
-            { x.is_taken() },
-        );
-        book.begin_abort(self.alloc, &self.board, pass, tx)
-    }
-
-    /// Finishes what was begun. An orphan stays one until then, so this waits for nothing but the lock.
-    fn schedule_abort<R: Wait>(
-        &self,
-        rt: &R,
-        pass: &mut Pass<J>,
-        turn: Turn<J, S>,
-        e: Entry,
-        prepared: Prepared,
-        appended: Result<(), LogError>,
-    ) -> Result<OpenEntry<J, S>, BookError>
-        requires aborts { IsAbortOf e.tx e }
-        requires holds { HoldsAppended S.tells S.faults (placement_of J.layout) (front pass.old.seat) e prepared turn.share.amount turn.log appended }
-        ensures ok { IfOk result (λ entry. HoldsEntry S.tells S.faults (placement_of J.layout) (front pass.new.seat) entry.number e entry.turn.share.amount entry.turn.log) }
-        ensures since { IfOk result (λ entry. SchedulesAbortSince (placement_of J.layout) (front pass.old.seat) (front pass.new.seat) entry.number e) }
-        ensures enabled { IfOk result (λ entry. (b : ℕ) → in_mask entry.enabled b ≡ is_enabled (front pass.new.seat) b) }
-        ensures err { IfErr result (RefusesAppendedSince (front pass.old.seat) (front pass.new.seat)) }
-        ensures more { HasNotedMore (pass_view pass.old.seat) (pass_view pass.new.seat) }
-        ensures legal { IsLegal (front pass.new.seat) }
-    {
-        let tx = e.tx;
-        let mut book = self.settled.wait_while(
-            rt,
-            self.book.lock(rt),
-            |x: &mut LockedBook<J, S>| -> bool
-                ensures { result ≡ false → books.is_orphan x.new.book.state tx ≡ true }
-            { !x.is_orphan(tx) },
-        );
-        book.finish_abort(&self.board, pass, turn, e, prepared, appended)
-    }
-
-    /// Finishes what was begun, and wakes those who wait for it.
+    /// Finishes what was begun, and wakes those who wait for it. An orphan stays one until then, so this waits for
+    /// nothing but the lock.
     fn finish_abort<R: Wait>(
         &self,
         rt: &R,
@@ -248,10 +162,19 @@ impl<J: Naming, B: Backend, S: Store + Drop> Control<J, B, S> {
         ensures more { HasNotedMore (pass_view pass.old.seat) (pass_view pass.new.seat) }
         ensures legal { IsLegal (front pass.new.seat) }
     {
-        let finished = self.schedule_abort(rt, pass, turn, e, prepared, appended);
-        self.settled.notify_all();
+        let tx = e.tx;
+        let mut book = self.locks.settled.wait_while(
+            rt,
+            self.locks.book.lock(rt),
+            |x: &mut LockedBook<J, S>| -> bool
+                ensures { result ≡ false → books.is_orphan x.new.book.state tx ≡ true }
+            { !x.is_orphan(tx) },
+        );
+        let finished = book.finish_abort(&self.locks.board, pass, turn, e, prepared, appended);
+        drop(book);
+        self.locks.settled.notify_all();
         if finished.is_err() {
-            self.turn_back.notify_one();
+            self.locks.turn_back.notify_one();
         }
         finished
     }
@@ -280,7 +203,7 @@ impl<J: Naming, B: Backend, S: Store + Drop> Control<J, B, S> {
         match finished {
             Ok(open) => {
                 let number = open.number;
-                self.carry_out(rt, pass, open, &copy);
+                self.locks.carry_out(rt, pass, open, &copy);
                 Ok(number)
             }
             Err(error) => Err(refusal_of(error)),
@@ -299,15 +222,18 @@ impl<J: Naming, B: Backend, S: Store + Drop> Control<J, B, S> {
         ensures seen { HasSeenMore (pass_view pass.old.seat) (pass_view pass.new.seat) }
         ensures legal { IsLegal (front pass.new.seat) }
     {
-        let begun = self.begin_abort(rt, pass, tx);
+        let begun = self
+            .locks
+            .wait_for_turn(rt)
+            .begin_abort(self.locks.alloc, &self.locks.board, pass, tx);
         match begun {
             Ok(Some(begun)) => self.carry_out_abort(rt, pass, begun),
             Ok(None) => {
-                self.turn_back.notify_one();
+                self.locks.turn_back.notify_one();
                 Err(AdminError::NotOrphan(tx))
             }
             Err(error) => {
-                self.turn_back.notify_one();
+                self.locks.turn_back.notify_one();
                 Err(refusal_of(error))
             }
         }

@@ -1,6 +1,6 @@
 //! The audit: what the enabled backends hold while the turn is held.
 
-ghost use Rattle.std.specs.Prelude.{◌≡◌, ◌++◌, ◌<◌, ℕ, true, List, length, IfErr, IfOk, OnOk, is_none};
+ghost use Rattle.std.specs.Prelude.{◌≡◌, ◌++◌, ◌<◌, ℕ, true, List, length, IfErr, IfOk, OnOk};
 ghost use mathlib.Core.List.{IsPrefix};
 ghost use Rattle.cj_model.specs.declared.limits.TheConstants.{BACKEND_LIMIT};
 ghost use Rattle.cj_model.specs.Cluster.Masks.{in_mask};
@@ -10,8 +10,9 @@ ghost use Rattle.cj_cluster.specs.History.Histories.{is_enabled, is_free, log};
 ghost use Rattle.cj_cluster.specs.History.Legality.{IsLegal};
 ghost use Rattle.cj_place.specs.Layouts.{placement_of};
 ghost use Rattle.cj_board.specs.Seats.{front, pass_view};
-ghost use Rattle.cj_locked.specs.Auditing.{GivesPart, HoldsTurn, IsHeldOver};
-ghost use Rattle.cj_locked.specs.Passes.{HasNotedMore};
+ghost use Rattle.cj_locked_cell.specs.Asking.{GivesPart};
+ghost use Rattle.cj_locked.specs.Auditing.{HoldsTurn, IsHeldOver};
+ghost use Rattle.cj_pass.specs.Passes.{HasNotedMore};
 ghost use Rattle.cj_locked.specs.Turns.{turn_amount};
 ghost use Rattle.cj_control.specs.Auditing.{FailsAudit, audit_lines_at, audit_text_of};
 
@@ -19,31 +20,14 @@ use crate::administration::AdminError;
 use crate::control::Control;
 use cj_audit::{append_backend, into_text};
 use cj_backend::Backend;
-use cj_locked::{HeldTurn, LockedBook, Naming, Pass, Turn};
+use cj_locked::{HeldTurn, Turn};
 use cj_model::{Db, Text, has_bit};
 use cj_outside::Store;
+use cj_pass::{Naming, Pass};
 use cj_replica::CellError;
 use std::sync::Wait;
 
 impl<J: Naming, B: Backend, S: Store + Drop> Control<J, B, S> {
-    /// Waits for the turn, and takes it.
-    fn hold<R: Wait>(&self, rt: &R, pass: &mut Pass<J>) -> HeldTurn<J, S>
-        ensures holds { HoldsTurn S.tells S.faults (front pass.new.seat) result.turn.share.amount result.turn.log }
-        ensures length { result.length ≡ length (log (front pass.new.seat)) }
-        ensures enabled { (b : ℕ) → in_mask result.enabled b ≡ is_enabled (front pass.new.seat) b }
-        ensures more { HasNotedMore (pass_view pass.old.seat) (pass_view pass.new.seat) }
-        ensures legal { IsLegal (front pass.new.seat) }
-    {
-        let mut book = self.turn_back.wait_while(
-            rt,
-            self.book.lock(rt),
-            |x: &mut LockedBook<J, S>| -> bool
-                ensures { result ≡ is_none x.new.log }
-            { x.is_taken() },
-        );
-        book.hold(&self.board, pass)
-    }
-
     /// Gives the turn back, and wakes those who wait for it.
     fn give_back<R: Wait>(&self, rt: &R, pass: &mut Pass<J>, turn: Turn<J, S>)
         requires holds { HoldsTurn S.tells S.faults (front pass.old.seat) turn.share.amount turn.log }
@@ -52,9 +36,12 @@ impl<J: Naming, B: Backend, S: Store + Drop> Control<J, B, S> {
         ensures more { HasNotedMore (pass_view pass.old.seat) (pass_view pass.new.seat) }
         ensures legal { IsLegal (front pass.new.seat) }
     {
-        self.book.lock(rt).give_back(&self.board, pass, turn);
-        self.turn_back.notify_one();
-        self.settled.notify_all();
+        self.locks
+            .book
+            .lock(rt)
+            .give_back(&self.locks.board, pass, turn);
+        self.locks.turn_back.notify_one();
+        self.locks.settled.notify_all();
     }
 
     /// Asks backend `b` for all that it holds, if it stands at position `n`.
@@ -68,10 +55,10 @@ impl<J: Naming, B: Backend, S: Store + Drop> Control<J, B, S> {
         ensures more { HasNotedMore (pass_view pass.old.seat) (pass_view pass.new.seat) }
         ensures gives { GivesPart B.tells (placement_of J.layout) b n (pass_view pass.old.seat) (pass_view pass.new.seat) result }
     {
-        let Some(cell) = self.cells.get(b as usize) else {
+        let Some(cell) = self.locks.cells.get(b as usize) else {
             return Err(CellError::Starved);
         };
-        cell.lock(rt).contents(&self.board, pass, b, n)
+        cell.lock(rt).contents(&self.locks.board, pass, b, n)
     }
 
     /// Appends the lines of one backend. It is asked for its contents if it is in the mask, and else has no lines. No
@@ -97,7 +84,7 @@ impl<J: Naming, B: Backend, S: Store + Drop> Control<J, B, S> {
         }
         let contents = self.contents_at(rt, pass, b, n);
         match contents {
-            Ok(database) => match append_backend(text, self.placement.name(b), &database) {
+            Ok(database) => match append_backend(text, self.locks.placement.name(b), &database) {
                 Ok(()) => Ok(()),
                 Err(_) => Err(AdminError::NoMemory),
             },
@@ -120,8 +107,8 @@ impl<J: Naming, B: Backend, S: Store + Drop> Control<J, B, S> {
         ensures err { IfErr result (FailsAudit (front pass.old.seat) (pass_view pass.old.seat) (pass_view pass.new.seat)) }
         ensures more { HasNotedMore (pass_view pass.old.seat) (pass_view pass.new.seat) }
     {
-        let mut text = Vec::new(self.alloc);
-        for b in 0..self.placement.count() {
+        let mut text = Vec::new(self.locks.alloc);
+        for b in 0..self.locks.placement.count() {
             let audited = self.audit_backend(rt, pass, &mut text, b, n, enabled);
             if let Err(error) = audited {
                 return Err(error);
@@ -145,7 +132,7 @@ impl<J: Naming, B: Backend, S: Store + Drop> Control<J, B, S> {
             length,
             enabled,
             turn,
-        } = self.hold(rt, pass);
+        } = self.locks.wait_for_turn(rt).hold(&self.locks.board, pass);
         let text = self.audit_each(rt, pass, length, enabled);
         self.give_back(rt, pass, turn);
         text

@@ -6,22 +6,22 @@ ghost use Rattle.cj_model.specs.declared.answer.Reply.TheVariants as reply;
 ghost use Rattle.cj_model.specs.declared.codes.TheConstants.{NO_MEMORY};
 ghost use Rattle.cj_model.specs.declared.limits.TheConstants.{SESSION_NUMBER_LIMIT};
 ghost use Rattle.cj_model.specs.Database.Inserts.{refusal_of_code};
-ghost use Rattle.cj_cluster.specs.History.Histories.{log};
+ghost use Rattle.cj_cluster.specs.History.Histories.{log, tx_of};
 ghost use Rattle.cj_cluster.specs.History.Legality.{IsLegal};
 ghost use Rattle.cj_board.specs.Counting.{event_count_of};
 ghost use Rattle.cj_board.specs.Seats.{front, pass_view};
-ghost use Rattle.cj_locked.specs.Passes.{HasNotedMore, HasSeenMore, WasGiven};
+ghost use Rattle.cj_pass.specs.Passes.{HasNotedMore, HasSeenMore, WasGiven};
 ghost use Rattle.cj_locked.specs.Writing.{AreUpTo};
-ghost use Rattle.cj_control.specs.Writing.{least_after};
+ghost use Rattle.cj_locks.specs.Writing.{least_after};
 
 use crate::control::Control;
-use crate::read::Query;
 use cj_backend::Backend;
 use cj_book::OwnError;
 use cj_desk::{Desk, Written};
-use cj_locked::{Naming, Pass};
+use cj_locks::Query;
 use cj_model::{Act, Duplicate, Entry, NO_MEMORY, NoMemory, Refusal, Reply, Select, Text};
 use cj_outside::Store;
+use cj_pass::{Naming, Pass};
 use std::alloc::Global;
 use std::sync::Wait;
 use thiserror::Error;
@@ -91,8 +91,8 @@ impl<J: Naming, B: Backend, S: Store + Drop> Control<J, B, S> {
         ensures few { event_count_of (pass_view pass.new.seat).own_session (front pass.new.seat) ≤ (pass_view pass.new.seat).count }
         ensures legal { IsLegal (front pass.new.seat) }
     {
-        self.book.lock(rt).tell(&self.board, pass);
-        self.board.check_count(pass);
+        self.locks.book.lock(rt).tell(&self.locks.board, pass);
+        self.locks.board.check_count(pass);
     }
 
     /// Replies to a session that memory ran out before its entry was begun. Its pass has seen the history then.
@@ -116,7 +116,7 @@ impl<J: Naming, B: Backend, S: Store + Drop> Control<J, B, S> {
         ensures full { (n : ℕ) → IsErrOf result (OwnError.SessionsFull n) → (n ≡ SESSION_NUMBER_LIMIT) × WasGiven (pass_view pass.new.seat) n }
         ensures pass { HasNotedMore (pass_view pass.old.seat) (pass_view pass.new.seat) }
     {
-        self.book.lock(rt).open(&self.board, pass)
+        self.locks.book.lock(rt).open(&self.locks.board, pass)
     }
 
     /// Makes the caller of a session that was opened now, which has seen what this pass has.
@@ -136,8 +136,8 @@ impl<J: Naming, B: Backend, S: Store + Drop> Control<J, B, S> {
         ensures legal { IsLegal (front result.pass.seat) }
         ensures pass { pass_view pass.new.seat ≡ pass_view pass.old.seat }
     {
-        let known = self.board.split(pass);
-        self.board.rejoin(&mut own, known);
+        let known = self.locks.board.split(pass);
+        self.locks.board.rejoin(&mut own, known);
         self.show(rt, &mut own);
         Caller {
             control: self,
@@ -148,8 +148,8 @@ impl<J: Naming, B: Backend, S: Store + Drop> Control<J, B, S> {
         }
     }
 
-    /// Opens a session, of which nothing came yet. It has seen the history, and all that the pass has seen, and reads
-    /// what had ended by then.
+    /// Opens a session, of which nothing came yet, so it has no open transaction. It has seen the history, and all that
+    /// the pass has seen, and reads what had ended by then.
     ///
     /// `SessionsFull` comes where no session number is left: session 2^62 was given, or the history has one not below.
     /// The pass shows it.
@@ -159,6 +159,7 @@ impl<J: Naming, B: Backend, S: Store + Drop> Control<J, B, S> {
         pass: &mut Pass<J>,
     ) -> Result<Caller<'_, J, B, S>, CallerError>
         ensures new { IfOk result (λ caller. event_count_of caller.session (front caller.pass.seat) ≡ 0) }
+        ensures idle { IfOk result (λ caller. tx_of (log (front caller.pass.seat)) caller.session ≡ 0) }
         ensures begins { IfOk result (λ caller. (caller.least ≡ 0) × (caller.queries ≡ 0)) }
         ensures seen { IfOk result (λ caller. IsPrefix (front pass.old.seat) (front caller.pass.seat)) }
         ensures legal { IfOk result (λ caller. IsLegal (front caller.pass.seat)) }
@@ -183,14 +184,17 @@ impl<J: Naming, B: Backend, S: Store + Drop> Control<J, B, S> {
             session,
             ..
         } = caller;
-        let seen = self.board.split(&mut own);
-        self.board.rejoin(pass, seen);
-        self.book.lock(rt).close(&self.board, session, own);
+        let seen = self.locks.board.split(&mut own);
+        self.locks.board.rejoin(pass, seen);
+        self.locks
+            .book
+            .lock(rt)
+            .close(&self.locks.board, session, own);
     }
 
     /// Returns the hits and the misses that the result cache has counted.
     fn cache_counts<R: Wait>(&self, rt: &R) -> (u64, u64) {
-        self.book.lock(rt).cache_counts()
+        self.locks.book.lock(rt).cache_counts()
     }
 }
 
@@ -200,21 +204,21 @@ impl<'a, J: Naming, B: Backend, S: Store + Drop, R: Wait> Desk<R> for Caller<'a,
 
     ghost tells = { B.tells };
 
-    ghost state_of = { λ c. desk_at J.layout c.control.now.accounts c.session (front c.pass.seat) c.least c.queries };
+    ghost state_of = { λ c. desk_at J.layout c.control.now.locks.accounts c.session (front c.pass.seat) c.least c.queries };
 
-    ghost leads_to = { λ a x z. DeskSteps B.tells (desk_at J.layout a.control.now.accounts a.session (front a.pass.seat) a.least a.queries) x (desk_at J.layout z.control.now.accounts z.session (front z.pass.seat) z.least z.queries) };
+    ghost leads_to = { λ a x z. DeskSteps B.tells (desk_at J.layout a.control.now.locks.accounts a.session (front a.pass.seat) a.least a.queries) x (desk_at J.layout z.control.now.locks.accounts z.session (front z.pass.seat) z.least z.queries) };
 
     ghost promised = { λ a z x h. h };
 
     fn check(&self, user: &[u8], password: &[u8]) -> bool {
-        self.control.accounts.check(user, password)
+        self.control.locks.accounts.check(user, password)
     }
 
     fn write(&mut self, rt: &R, user: &Text, tx: u64, act: Act) -> Written {
         let seq = self.queries + 1;
-        match twice(self.control.alloc, self.session, seq, user, tx, act) {
+        match twice(self.control.locks.alloc, self.session, seq, user, tx, act) {
             Ok((entry, copy)) => {
-                let (number, reply) = self.control.write(rt, &mut self.pass, entry, &copy);
+                let (number, reply) = self.control.locks.write(rt, &mut self.pass, entry, &copy);
                 self.queries = seq;
                 self.least = least_after(number, self.least);
                 Written { number, reply }
@@ -237,7 +241,7 @@ impl<'a, J: Naming, B: Backend, S: Store + Drop, R: Wait> Desk<R> for Caller<'a,
             select,
             least: self.least,
         };
-        let (reply, least) = self.control.read(rt, &mut self.pass, &query);
+        let (reply, least) = self.control.locks.read(rt, &mut self.pass, &query);
         self.queries = seq;
         self.least = least;
         reply

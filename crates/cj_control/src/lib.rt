@@ -1,22 +1,21 @@
-//! A cluster that threads share: the book and each cell behind a lock of its own, and sessions over them.
+//! A cluster that threads share, its sessions, and what an administrator does with it.
 //!
 //! `Control` is what threads share, a `Caller` one session of it, which `serve_session` serves as any desk.
-//! A function that takes a lock makes one call of `cj_locked` there, and has that call's clauses but for what they say
-//! of the locked value. What is known between two locks is what the `Pass` has seen.
-//! Promised: each write and each read of a `Caller` is a turn, from what its pass had seen to what it sees then.
+//! The locks and the way of entries and queries through them are those of `cj_locks`.
+//! Promised: each write and each read of a `Caller` is a turn, from what its pass had seen to what it sees then. Each
+//! call of the administrator has its event in what the pass sees then, or names why not.
 //! No lock is held while another is taken. No lock that a read needs is held over an append, a print or a query.
-//! To change: `write.rt` has the way of an entry, `read.rt` that of a query, `administration.rt` and `audit.rt` what the
-//! administrator may do. To read: `specs/Callers`. Proofs begin in `proofs/Callers`.
+//! To change: `administration.rt`, `audit.rt` and `show.rt` have what the administrator may do, `start.rt` how it
+//! begins and ends. To read: `specs/Callers`, `specs/Administration`. Proofs begin in `proofs/Callers`.
 #![tactic(auto)]
 
 mod administration;
 mod audit;
 mod caller;
 mod control;
-mod read;
 mod start;
-mod write;
 
 pub use administration::AdminError;
 pub use caller::{Caller, CallerError};
+pub use cj_pass::{Naming, Pass};
 pub use control::Control;

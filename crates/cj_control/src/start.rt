@@ -1,8 +1,7 @@
 //! How a cluster that threads share is made of a world that has started, and how it is taken apart.
 
-ghost use Rattle.std.specs.Prelude.{◌≡◌, ℕ, ◌≤◌, All, IfOk, IfSome, OnOk, length, vec_capacity};
+ghost use Rattle.std.specs.Prelude.{◌≡◌, ◌≤◌, All, IfErr, IfOk, IfSome, length, vec_capacity};
 ghost use mathlib.Core.List.{IsPrefix};
-ghost use Rattle.atomic_table.specs.Seated.{TableId};
 ghost use Rattle.cj_model.specs.declared.limits.TheConstants.{BACKEND_LIMIT};
 ghost use Rattle.cj_board.specs.Seats.{board_id, front, pass_board, pass_view};
 ghost use Rattle.cj_board.specs.Steps.{after_join};
@@ -11,35 +10,66 @@ ghost use Rattle.cj_cluster.specs.History.Legality.{IsLegal};
 ghost use Rattle.cj_place.specs.Layouts.{placement_of};
 ghost use Rattle.cj_replica.specs.Seated.{SeatedCell};
 ghost use Rattle.cj_state.specs.Seats.{AreCellsAt};
-ghost use Rattle.cj_locked.specs.Passes.{HasNotedMore};
+ghost use Rattle.cj_pass.specs.Passes.{HasNotedMore};
 ghost use Rattle.cj_control.specs.Starting.{AreOfStarted, FallTo, HoldFrom, IsCurrentAt};
 
 use crate::control::Control;
 use cj_backend::Backend;
-use cj_locked::{LockedBook, LockedCell, NamedBoard, Naming, Pass, Turn};
+use cj_locked::{LockedBook, Turn};
+use cj_locked_cell::LockedCell;
+use cj_locks::Locks;
 use cj_model::{Duplicate, ListOf, NoMemory};
 use cj_outside::Store;
+use cj_pass::{NamedBoard, Naming, Pass};
+use cj_place::Placement;
 use cj_replica::Cell;
 use cj_state::Shared;
 use std::alloc::Global;
 use std::sync::ledger::Blank;
 use std::sync::{Condvar, Mutex};
 
+/// All memory that a start takes: a copy of the placement, and empty lists with room for the locks of the cells, and
+/// for the cells.
+#[derive(Drop)]
+struct Room<J: Naming, B: Backend> {
+    placement: Placement,
+    locks: Vec<Mutex<LockedCell<J, B>>>,
+    unlocked: Vec<LockedCell<J, B>>,
+}
+
+/// Takes the memory of a start with so many cells.
+fn reserve<J: Naming, B: Backend>(
+    alloc: Global,
+    placement: &Placement,
+    cells: usize,
+) -> Result<Room<J, B>, NoMemory>
+    ensures placement { IfOk result (λ room. room.placement ≡ placement.now) }
+    ensures empty { IfOk result (λ room. (length room.locks.items ≡ 0) × (length room.unlocked.items ≡ 0)) }
+    ensures room { IfOk result (λ room. (cells ≤ vec_capacity room.locks) × (cells ≤ vec_capacity room.unlocked)) }
+{
+    Ok(Room {
+        placement: placement.copy(alloc)?,
+        locks: Vec::with_capacity(alloc, cells)?,
+        unlocked: Vec::with_capacity(alloc, cells)?,
+    })
+}
+
 /// Puts each cell behind a lock, in the same order.
 fn locked<J: Naming, B: Backend + Drop>(
-    alloc: Global,
     mut cells: Vec<Cell<B>>,
-) -> Result<Vec<Mutex<LockedCell<J, B>>>, NoMemory>
+    mut locks: Vec<Mutex<LockedCell<J, B>>>,
+) -> Vec<Mutex<LockedCell<J, B>>>
     requires at { AreCellsAt J.board cells.items }
     requires placed { All (λ (x : SeatedCell). x.state.placement ≡ placement_of J.layout) cells.items }
-    ensures as_many { IfOk result (λ locks. length locks.items ≡ length cells.items) }
+    requires empty { length locks.items ≡ 0 }
+    requires room { length cells.items ≤ vec_capacity locks }
+    ensures as_many { length result.items ≡ length cells.items }
 {
-    let mut locks = Vec::with_capacity(alloc, cells.len())?;
     while let Some(cell) = cells.pop() {
         locks.push_reserved(Mutex::new(LockedCell::new(cell)));
     }
     locks.reverse();
-    Ok(locks)
+    locks
 }
 
 /// Takes the cells out of their locks, the last one first, and has each tell the pass what it has seen. Then all that
@@ -95,22 +125,23 @@ impl<J: Naming, B: Backend + Drop, S: Store + Drop> Control<J, B, S> {
     /// Puts the parts of a world that has started behind locks, with a turn that nobody has. The pass has seen the
     /// world's history. `blank` is a new ledger of one part. The world's dumps are dropped, of which it has none.
     ///
-    /// `NoMemory` drops all parts, the log's store among them.
+    /// Want of memory hands the log's store back, and drops the rest.
     pub fn start(
         alloc: Global,
         shared: Shared<B, S>,
         blank: Blank,
-    ) -> Result<(Control<J, B, S>, Pass<J>), NoMemory>
+    ) -> Result<(Control<J, B, S>, Pass<J>), (NoMemory, S)>
         requires world { AreOfStarted B.tells S.tells S.faults (board_id shared.board) (pass_board shared.pass) shared.book shared.recovery_log shared.cells.items shared.accounts shared.dumps }
         requires board { board_id shared.board ≡ J.board }
         requires layout { shared.book.state.layout ≡ J.layout }
         requires turn { (blank.name ≡ J.turn) × (blank.parts ≡ 1) }
         requires tells { J.tells ≡ B.tells }
         requires emptied { (length shared.emptied.items ≡ 0) × (BACKEND_LIMIT ≤ vec_capacity shared.emptied) }
-        ensures placement { IfOk result (λ started. started.0.placement ≡ shared.book.state.layout) }
-        ensures accounts { IfOk result (λ started. started.0.accounts ≡ shared.accounts) }
+        ensures placement { IfOk result (λ started. started.0.locks.placement ≡ shared.book.state.layout) }
+        ensures accounts { IfOk result (λ started. started.0.locks.accounts ≡ shared.accounts) }
         ensures seen { IfOk result (λ started. front started.1.seat ≡ shared.book.state.history) }
         ensures legal { IfOk result (λ started. IsLegal (front started.1.seat)) }
+        ensures back { IfErr result (λ error. error.1 ≡ shared.recovery_log.log.store) }
     {
         let Shared {
             board,
@@ -122,29 +153,44 @@ impl<J: Naming, B: Backend + Drop, S: Store + Drop> Control<J, B, S> {
             emptied,
             ..
         } = shared;
-        let placement = book.placement().copy(alloc)?;
-        let unlocked = Vec::with_capacity(alloc, cells.len())?;
-        let cells = locked(alloc, cells)?;
+        let Ok(room) = reserve(alloc, book.placement(), cells.len()) else {
+            return Err((NoMemory, recovery_log.into_log()));
+        };
+        let Room {
+            placement,
+            locks,
+            unlocked,
+        } = room;
         let (ledger, share) = blank.open();
         let board = NamedBoard::new(board);
         let mut pass = Pass::new(pass);
         let mut book = LockedBook::new(book, ledger, Turn::new(share, recovery_log));
         book.tell(&board, &mut pass);
         let keeps = !book.keeps_none();
-        let control = Control {
+        let locks = Locks {
             alloc,
             board,
             book: Mutex::new(book),
             turn_back: Condvar::new(),
             settled: Condvar::new(),
-            cells,
+            cells: locked(cells, locks),
             placement,
             accounts,
             keeps,
+        };
+        let control = Control {
+            locks,
             unlocked,
             emptied,
         };
         Ok((control, pass))
+    }
+
+    /// Lends the placement of tables on backends.
+    pub fn placement(&self) -> &Placement
+        ensures { result.now ≡ J.layout }
+    {
+        &self.locks.placement
     }
 
     /// Makes another pass that has seen the same, with the same notes. The fault tokens stay with the first.
@@ -152,7 +198,7 @@ impl<J: Naming, B: Backend + Drop, S: Store + Drop> Control<J, B, S> {
         ensures pass { pass_view pass.new.seat ≡ pass_view pass.old.seat }
         ensures other { pass_view result.seat ≡ pass_without_tokens (pass_view pass.old.seat) }
     {
-        self.board.split(pass)
+        self.locks.board.split(pass)
     }
 
     /// Joins another pass: this one has then seen what either has, with the notes and fault tokens of both.
@@ -161,7 +207,7 @@ impl<J: Naming, B: Backend + Drop, S: Store + Drop> Control<J, B, S> {
         ensures more { HasNotedMore (pass_view pass.old.seat) (pass_view pass.new.seat) }
         ensures other { IsPrefix (front other.seat) (front pass.new.seat) }
     {
-        self.board.rejoin(pass, other);
+        self.locks.board.rejoin(pass, other);
     }
 
     /// Takes the cluster apart, and gives the backends in the order of their numbers. The pass has seen the history
@@ -171,17 +217,20 @@ impl<J: Naming, B: Backend + Drop, S: Store + Drop> Control<J, B, S> {
     pub fn into_backends(self, pass: &mut Pass<J>) -> Option<ListOf<B>>
         ensures more { HasNotedMore (pass_view pass.old.seat) (pass_view pass.new.seat) }
         ensures legal { IsLegal (front pass.new.seat) }
-        ensures as_many { IfSome result (λ backends. length backends ≡ length self.placement.names) }
+        ensures as_many { IfSome result (λ backends. length backends ≡ length self.locks.placement.names) }
         ensures current { IfSome result (HoldFrom (λ b x. IsCurrentAt B.tells (placement_of J.layout) (front pass.new.seat) b (B.told x)) 0) }
     {
         let Control {
+            locks,
+            unlocked: empty,
+            emptied,
+        } = self;
+        let Locks {
             board,
             book,
             cells,
-            unlocked: empty,
-            emptied,
             ..
-        } = self;
+        } = locks;
         let mut book = book.into_inner();
         book.tell(&board, pass);
         let cells = unlocked(&board, pass, cells, empty)?;

@@ -6,10 +6,9 @@ ghost use Rattle.cj_desk.specs.DeskStates.{desk_tx};
 
 use crate::clusters::{Scene, name, play};
 use cj_backend::Backend;
-use cj_control::{AdminError, Control};
+use cj_control::{AdminError, Control, Naming, Pass};
 use cj_desk::Desk;
 use cj_flaky::Flaky;
-use cj_locked::{Naming, Pass};
 use cj_mem::MemBackend;
 use cj_model::{Act, ListOf, Request, Text, USER_LIMIT};
 use cj_outside::MemStore;
@@ -29,6 +28,7 @@ impl<R: Wait + Abort> Scene<MemBackend, R> for Asked {
         control: Control<J, MemBackend, MemStore>,
         mut pass: Pass<J>,
     ) -> Result<(), Fail> {
+        assert!(rt; control.placement().count() == 2);
         assert!(rt; control.disable(rt, &mut pass, 1) == Ok(()));
         assert!(rt; control.disable(rt, &mut pass, 1) == Err(AdminError::NotEnabled));
         let name = name(rt);

@@ -15,9 +15,8 @@ use cj_book::BookParts;
 use cj_cache::Cache;
 use cj_cluster::SessionEnd;
 use cj_conf::{Conf, read_conf};
-use cj_control::Control;
+use cj_control::{Control, Naming, Pass};
 use cj_core::{Backends, Parts, Shared, World};
-use cj_locked::{Naming, Pass};
 use cj_model::{Name, NoMemory};
 use cj_outside::{FixedClock, ListDraw, MemSink, MemSource, MemStore};
 use cj_session::serve_session;
@@ -45,8 +44,7 @@ pub trait Scene<B: Backend, R> {
         alloc: Global,
         control: Control<J, B, MemStore>,
         pass: Pass<J>,
-    ) -> Result<(), Fail>
-        requires { length J.layout.names ≡ 2 };
+    ) -> Result<(), Fail>;
 }
 
 /// The configuration of a text. In a function with the text itself, the search would compute what it gives.
@@ -96,7 +94,6 @@ fn started<B: Backend + Drop>(
     requires none { (B.begun one ≡ []) × (B.begun other ≡ []) }
     ensures world { IfOk result (λ shared. AreOfStarted B.tells true (λ (store : State). store.faults) (board_id shared.board) (pass_board shared.pass) shared.book shared.recovery_log shared.cells.items shared.accounts shared.dumps) }
     ensures emptied { IfOk result (λ shared. (length shared.emptied.items ≡ 0) × (BACKEND_LIMIT ≤ vec_capacity shared.emptied)) }
-    ensures two { IfOk result (λ shared. length shared.book.state.layout.names ≡ 2) }
 {
     let mut backends = Backends::new(alloc);
     backends.push(one)?;
@@ -122,7 +119,6 @@ fn play_at<J: Naming + Send + Sync, B: Backend + Drop, T: Scene<B, R>, R: Abort>
     requires turn { (blank.name ≡ J.turn) × (blank.parts ≡ 1) }
     requires tells { J.tells ≡ B.tells }
     requires emptied { (length shared.emptied.items ≡ 0) × (BACKEND_LIMIT ≤ vec_capacity shared.emptied) }
-    requires two { length shared.book.state.layout.names ≡ 2 }
 {
     match Control::<J, B, MemStore>::start(alloc, shared, blank) {
         Ok((control, pass)) => scene.play::<J>(rt, alloc, control, pass),

@@ -2,10 +2,9 @@
 
 use crate::clusters::{Scene, check, name, play};
 use crate::frames::{DONE_0, DONE_1, session};
-use cj_control::{AdminError, Control};
+use cj_control::{AdminError, Control, Naming, Pass};
 use cj_desk::Desk;
 use cj_flaky::Flaky;
-use cj_locked::{Naming, Pass};
 use cj_mem::MemBackend;
 use cj_model::ListOf;
 use cj_outside::MemStore;
@@ -67,6 +66,7 @@ impl<R: Wait + Abort> Scene<Flaky<MemBackend>, R> for FailingBackends {
             NO_BACKEND,
         ];
         check(rt, alloc, &control, &mut pass, &sent, &replies)?;
+        assert!(rt; control.placement().count() == 2);
         assert!(rt; control.disable(rt, &mut pass, 0) == Err(AdminError::NotEnabled));
         let name = name(rt);
         assert!(rt; control.checkpoint(rt, &mut pass, &name) == Ok(3));

@@ -3,9 +3,8 @@
 use crate::clusters::{Scene, check, play};
 use crate::frames::{DONE_0, DONE_1, DONE_2, STATS, session};
 use cj_backend::Backend;
-use cj_control::Control;
+use cj_control::{Control, Naming, Pass};
 use cj_flaky::Wrong;
-use cj_locked::{Naming, Pass};
 use cj_mem::MemBackend;
 use cj_model::Text;
 use cj_outside::MemStore;

@@ -2,9 +2,8 @@
 
 use crate::clusters::{Scene, check, play};
 use crate::frames::{DONE_0, DONE_1, DONE_2, session};
-use cj_control::Control;
+use cj_control::{Control, Naming, Pass};
 use cj_flaky::{Gate, Gated};
-use cj_locked::{Naming, Pass};
 use cj_mem::MemBackend;
 use cj_outside::MemStore;
 use std::alloc::Global;
@@ -142,8 +141,14 @@ fn a_read_is_answered_while_another_is_asked(rt: HostRuntime) -> Result<(), Fail
     let left = Arc::new(alloc, AtomicU64::new(0))?;
     let right = Arc::new(alloc, AtomicU64::new(0))?;
     let missed = Arc::new(alloc, AtomicU64::new(0))?;
-    let one = Gated::new(MemBackend::new(alloc), gate_between(&left, &right, &missed)?);
-    let other = Gated::new(MemBackend::new(alloc), gate_between(&right, &left, &missed)?);
+    let one = Gated::new(
+        MemBackend::new(alloc),
+        gate_between(&left, &right, &missed)?,
+    );
+    let other = Gated::new(
+        MemBackend::new(alloc),
+        gate_between(&right, &left, &missed)?,
+    );
     play(&rt, alloc, one, other, Vec::new(alloc), &TwoReads)?;
     assert!(rt; missed.load(Ordering::SeqCst) == 0);
     Ok(())

@@ -34,7 +34,7 @@ use Rattle.cj_replica.specs.declared.replica.Caught.TheVariants as caught
 use Rattle.cj_replica.proofs.Longer.{outcome_longer}
 use Rattle.cj_tally.specs.declared.tally.Tally.{Tally}
 use Rattle.cj_tally.specs.Tallies.{AnswersByTally, AreTargets, HaveReported, IsRightOutcome, IsTallyOf}
-use Rattle.cj_locked.specs.Taking.{NotesTally}
+use Rattle.cj_locked_cell.specs.Taking.{NotesTally}
 use Rattle.cj_locked.specs.Turns.{pending_weight, turn_amount, turn_events_of}
 use Rattle.cj_locked.specs.Writing.{EndsSince, HoldsEntry, IsScheduledIn, SettlesTally}
 use Rattle.cj_locked.proofs.Following.{follows_reads}

@@ -33,7 +33,7 @@ use Rattle.cj_locked.specs.declared.failure.ReadFailure.{ReadFailure}
 use Rattle.cj_locked.specs.declared.failure.ReadFailure.TheVariants.{Noted, Full, Unserved}
 use Rattle.cj_locked.specs.Failures.{FailsAt, FailsSince}
 use Rattle.cj_locked.specs.Locked.{IsVacant}
-use Rattle.cj_locked.specs.Passes.{HasSeenMore}
+use Rattle.cj_pass.specs.Passes.{HasSeenMore}
 use Rattle.cj_locked.specs.Turns.{pending_weight, turn_amount, turn_events_of}
 use Rattle.cj_locked.proofs.Turns.{turn_events_push}
 

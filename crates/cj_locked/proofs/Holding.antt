@@ -1,5 +1,5 @@
 -- The turn that is held, and what stays meanwhile.
-use Rattle.std.proofs.Common.{◌≡◌, ℕ, ◌≤◌, Bool, true, List, Option, None, ap, sym, ◌∙◌, subst, arith}
+use Rattle.std.proofs.Common.{◌≡◌, ℕ, ◌≤◌, Bool, true, List, Option, None, Some, IfSome, ap, sym, ◌∙◌, subst, arith}
 use mathlib.Core.List.{IsPrefix}
 use Rattle.cj_cluster.specs.declared.event.Event.{Event}
 use Rattle.cj_cluster.specs.History.Histories.{is_free}
@@ -13,6 +13,10 @@ use Rattle.cj_locked.specs.Turns.{turn_amount, turn_events_of}
 use Rattle.cj_locked.proofs.Ending.{same_amount}
 use Rattle.cj_locked.proofs.Following.{follows_reads}
 use Rattle.cj_locked.proofs.Turns.{free_stays, turn_events_more, turn_stays, TurnStays}
+
+-- the book whose turn was taken
+pub taken_vacant : {S : Type 0} (tells : Bool) (count : S → ℕ) (book : SeatedBook) (log : Option (BookLogState S)) (l : BookLogState S) → log ≡ Some l → IfSome log (IsVacant tells count book) → IsVacant tells count book l
+taken_vacant {S} tells count book log l is vacant = subst (λ (o : Option (BookLogState S)). IfSome o (IsVacant tells count book)) is vacant
 
 -- who took the turn has it
 pub holds_turn : {S : Type 0} (tells : Bool) (count : S → ℕ) (book : SeatedBook) (l k : BookLogState S) (amount : ℕ) (G : List Event) → IsVacant tells count book l → amount ≡ turn_amount book.state.history book.pending → k ≡ l → G ≡ book.state.history

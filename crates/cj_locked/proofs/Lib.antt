@@ -1,4 +1,3 @@
-pub mod Asking
 pub mod Beginning
 pub mod Changing
 pub mod Ending
@@ -12,9 +11,6 @@ pub mod Marking
 pub mod Noting
 pub mod Opening
 pub mod Orphans
-pub mod Passes
 pub mod Reading
-pub mod Taking
-pub mod Tallying
 pub mod Turns
 pub mod Writing

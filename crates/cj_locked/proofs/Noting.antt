@@ -18,7 +18,7 @@ use Rattle.cj_place.specs.Layouts.{Layout}
 use Rattle.cj_book.specs.BookLogs.{BookLogState, LogFollows}
 use Rattle.cj_book.specs.Seated.{knows_counted, own_book_after, own_opened, told_book, view_after, GivesOwnPassesOnly, SeatedBook}
 use Rattle.cj_locked.specs.Locked.{IsLocked, IsVacant, LastIsNoted}
-use Rattle.cj_locked.specs.Passes.{WasGiven}
+use Rattle.cj_pass.specs.Passes.{WasGiven}
 use Rattle.cj_locked.specs.Turns.{turn_amount}
 
 -- ---- the greatest session of a history

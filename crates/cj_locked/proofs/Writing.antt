@@ -25,7 +25,7 @@ use Rattle.cj_board.proofs.OpenEntry.{still_enabled}
 use Rattle.cj_board.proofs.OwnStays.{newer_stays, own_stays, OwnStays}
 use Rattle.cj_book.specs.declared.error.BookError.{BookError}
 use Rattle.cj_book.specs.declared.error.BookError.TheVariants.{InProgress, NoBackend, HistoryFull, LogFault, NoMemory}
-use Rattle.cj_locked.specs.Passes.{HasSeenMore}
+use Rattle.cj_pass.specs.Passes.{HasSeenMore}
 use Rattle.cj_locked.specs.Writing.{refusal_for, AreUpTo, EndsSince, RefusesAt, RefusesSince, SchedulesSince, WritesTurn}
 use Rattle.cj_locked.proofs.Ending.{entry_there, scheduled_on}
 

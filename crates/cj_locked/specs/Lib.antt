@@ -4,10 +4,7 @@ pub mod Failures
 pub mod Locked
 pub mod Looking
 pub mod Marking
-pub mod Named
 pub mod Orphans
-pub mod Passes
 pub mod Reading
-pub mod Taking
 pub mod Turns
 pub mod Writing

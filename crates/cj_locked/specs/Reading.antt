@@ -1,5 +1,5 @@
--- What a backend answered to a query, what the pass that heard of it knows, and how a query of a session ends.
-use Rattle.std.specs.Prelude.{◌≡◌, ℕ, ◌<◌, ◌≤◌, Bool, true, List, length, Result, Ok, Err}
+-- How a query of a session ends.
+use Rattle.std.specs.Prelude.{◌≡◌, ℕ, ◌<◌, Bool, true, List, length}
 use mathlib.Core.List.{IsPrefix}
 use Rattle.cj_model.specs.declared.request.Request.TheVariants as request
 use Rattle.cj_model.specs.declared.select.Select.{Select}
@@ -10,37 +10,17 @@ use Rattle.cj_model.specs.declared.answer.Reply.{Reply}
 use Rattle.cj_model.specs.declared.answer.Reply.TheVariants.{Refused, Rows}
 use Rattle.cj_model.specs.declared.codes.TheConstants.{HISTORY_FULL, NO_BACKEND, NO_MEMORY, READ_FAULT}
 use Rattle.cj_model.specs.Cluster.Masks.{in_mask}
-use Rattle.cj_model.specs.Cluster.Placements.{Placement, hosts_all}
+use Rattle.cj_model.specs.Cluster.Placements.{Placement}
 use Rattle.cj_model.specs.Database.Inserts.{refusal_of_code}
-use Rattle.cj_model.specs.Database.Outcomes.{IsAsked}
-use Rattle.cj_model.specs.Database.Queries.{ask}
 use Rattle.cj_model.specs.Wire.Replies.{asked_reply}
 use Rattle.cj_cluster.specs.declared.event.Event.{Event}
 use Rattle.cj_cluster.specs.History.Answering.{CanServe, HasNoServer, HasServer}
-use Rattle.cj_cluster.specs.History.Histories.{database_after, events_left, log}
+use Rattle.cj_cluster.specs.History.Histories.{events_left}
 use Rattle.cj_cluster.specs.History.Turns.{Call}
 use Rattle.cj_cluster.specs.Moves.Runs.{HasFailedSince}
 use Rattle.cj_board.specs.declared.view.SeatView.{SeatView}
-use Rattle.cj_board.specs.Points.{fault_tokens_of}
-use Rattle.cj_replica.specs.declared.replica.CellReadError.{CellReadError}
-use Rattle.cj_replica.specs.declared.replica.CellReadError.TheVariants.{Out, Behind, Failed, NoMemory}
+use Rattle.cj_locked_cell.specs.Answering.{GivesAnswerAt}
 use Rattle.cj_locked.specs.Looking.{AreAllTried, IsOwedAt, IsRightAt}
-
--- It answered at position n, not below the least, that the pass has seen. Where it hosts the tables and tells what it
--- holds, that is what the one database answers there.
-pub record GivesAnswerAt (tells : Bool) (p : Placement) (b tx : ℕ) (select : Select) (least : ℕ) (v : SeatView) (answer : Asked) (n : ℕ) : Type 0 where
-  pub possible : IsAsked answer
-  pub owed : least ≤ n
-  pub within : n ≤ length (log v.front)
-  pub says : tells ≡ true → hosts_all p b select.tables ≡ true → answer ≡ ask (database_after (log v.front) n) tx select
-
--- or it gave no answer: if it failed, the pass has a fault token of it
-abbrev pub IsReadAnswer : Bool → Placement → ℕ → ℕ → Select → ℕ → SeatView → Result (Asked × ℕ) CellReadError → Type 0
-IsReadAnswer tells p b tx select least v (Ok (answer, n)) = GivesAnswerAt tells p b tx select least v answer n
-IsReadAnswer tells p b tx select least v (Err Out) = Unit {0}
-IsReadAnswer tells p b tx select least v (Err (Behind n)) = Unit {0}
-IsReadAnswer tells p b tx select least v (Err Failed) = 0 < fault_tokens_of b v.fault_tokens
-IsReadAnswer tells p b tx select least v (Err NoMemory) = Unit {0}
 
 -- the query as a session's call
 abbrev pub call_of_query : ℕ → ℕ → List ℕ → Select → Reply → Call

@@ -1,6 +1,6 @@
 //! The book behind its lock.
 
-ghost use Rattle.std.specs.Prelude.{◌≡◌, ◌-◌, ◌<◌, IfOk, IfErr, OnErr, ◌&&◌, not, ℕ, Bool, true, false, length, None, Some, IsNone, is_none, Contains};
+ghost use Rattle.std.specs.Prelude.{◌≡◌, ◌-◌, ◌<◌, IfOk, IfErr, OnErr, ◌&&◌, not, ℕ, Bool, true, false, length, None, Some, is_none, Contains};
 ghost use Rattle.cj_model.specs.Cluster.Masks.{in_mask};
 ghost use Rattle.cj_cluster.specs.History.Freshness.{IsFreshCache};
 ghost use Rattle.cj_cluster.specs.History.Histories.{is_enabled, is_free, log};
@@ -12,18 +12,17 @@ ghost use Rattle.cj_book.specs.BookLogs.{LogFollows};
 ghost use Rattle.cj_book.specs.Seated.{GivesOwnPassesOnly};
 ghost use Rattle.cj_tally.specs.Tallies.{IsTallyOf};
 ghost use Rattle.cj_locked.specs.Locked.{LastIsNoted};
-ghost use Rattle.cj_locked.specs.Passes.{HasNotedMore, HasSeenMore};
-ghost use Rattle.cj_locked.specs.Taking.{NotesTally};
+ghost use Rattle.cj_pass.specs.Passes.{HasNotedMore, HasSeenMore};
+ghost use Rattle.cj_locked_cell.specs.Taking.{NotesTally};
 ghost use Rattle.cj_locked.specs.Turns.{refusal_weight, turn_events_of};
 ghost use Rattle.cj_locked.specs.Writing.{BeginsSince, EndsSince, HoldsAppended, HoldsEntry, RefusesSince, SchedulesSince, SettlesTally};
 
-use crate::naming::{Naming, TurnLedger};
-use crate::pass::{NamedBoard, Pass};
-use crate::turn::Turn;
+use crate::turn::{KeptTurn, Turn, TurnLedger, taken};
 use cj_book::{BegunEntry, Book, BookError, Prepared};
 use cj_log::{LogError, LogItem};
 use cj_model::{Entry, Reply};
 use cj_outside::Store;
+use cj_pass::{NamedBoard, Naming, Pass};
 use cj_tally::Tally;
 use std::marker::{Model, PhantomData};
 use std::sync::ledger;
@@ -33,7 +32,7 @@ use std::sync::ledger;
 pub struct LockedBook<J: Naming, S: Store> {
     pub(crate) book: Book,
     pub(crate) ledger: ledger::Book<TurnLedger<J>>,
-    pub(crate) turn: Option<Turn<J, S>>,
+    pub(crate) turn: Option<KeptTurn<J, S>>,
     of: PhantomData<J>,
 }
 
@@ -54,7 +53,6 @@ impl<J: Naming, S: Store> Model for LockedBook<J, S> {
 }
 
 /// What the writer of an entry has while the entry is on its way into the recovery log.
-#[derive(Drop)]
 pub struct Begun<J: Naming, S: Store> {
     /// The entry's item, which the log is to append.
     pub item: LogItem,
@@ -64,7 +62,6 @@ pub struct Begun<J: Naming, S: Store> {
 }
 
 /// What the writer of an entry has while it is open.
-#[derive(Drop)]
 pub struct OpenEntry<J: Naming, S: Store> {
     pub number: u64,
     /// The mask of the backends that are enabled until the entry ends.
@@ -124,7 +121,7 @@ impl<J: Naming, S: Store + Drop> LockedBook<J, S> {
         LockedBook {
             book,
             ledger,
-            turn: Some(turn),
+            turn: Some(turn.keep()),
             of: PhantomData,
         }
     }
@@ -196,9 +193,7 @@ impl<J: Naming, S: Store + Drop> LockedBook<J, S> {
         ensures state { self.new.book.state ≡ self.old.book.state }
         ensures back { OnErr result (is_none self.new.log ≡ false) }
     {
-        let Some(mut turn) = self.turn.take() else {
-            unreachable!()
-        };
+        let mut turn = taken(&mut self.turn);
         turn.audit(&mut self.ledger);
         match self.book.begin_own(&board.board, &mut pass.seat, e) {
             Ok(BegunEntry { item, prepared }) => {
@@ -210,7 +205,7 @@ impl<J: Naming, S: Store + Drop> LockedBook<J, S> {
                 })
             }
             Err(error) => {
-                self.turn = Some(turn);
+                self.turn = Some(turn.keep());
                 Err(error)
             }
         }
@@ -289,7 +284,7 @@ impl<J: Naming, S: Store + Drop> LockedBook<J, S> {
             }
             Err(error) => {
                 turn.count(&mut self.ledger, refusal_weight(error));
-                self.turn = Some(turn);
+                self.turn = Some(turn.keep());
                 Err(error)
             }
         }
@@ -312,7 +307,11 @@ impl<J: Naming, S: Store + Drop> LockedBook<J, S> {
         ensures back { is_none self.new.log ≡ false }
         ensures ended { (tells : Bool) → IsTallyOf tells (placement_of J.layout) (log (front pass.old.seat)) (entry.number - 1) e.now tally → EndsSince tells (placement_of J.layout) (front pass.old.seat) entry.number e.now result (front pass.new.seat) }
     {
-        let OpenEntry { mut turn, .. } = entry;
+        let OpenEntry {
+            number: _,
+            enabled: _,
+            mut turn,
+        } = entry;
         self.book.learn(&board.board, &mut pass.seat);
         self.book.legal();
         turn.audit(&mut self.ledger);
@@ -320,7 +319,7 @@ impl<J: Naming, S: Store + Drop> LockedBook<J, S> {
         let reply = tally.reply(self.book.targets());
         self.book.end(&board.board, tally.failed, tally.starved);
         turn.count(&mut self.ledger, 3);
-        self.turn = Some(turn);
+        self.turn = Some(turn.keep());
         self.book.legal();
         self.book.tell(&board.board, &mut pass.seat);
         reply

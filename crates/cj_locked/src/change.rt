@@ -1,18 +1,18 @@
 //! Events at the book that are no entries.
 
-ghost use Rattle.std.specs.Prelude.{ℕ, ◌≡◌, ◌==◌, ◌<◌, ◌&&◌, not, Bool, true, false, length, Contains, is_none};
+ghost use Rattle.std.specs.Prelude.{◌≡◌, ◌==◌, ◌<◌, ◌&&◌, not, true, false, length, Contains, is_none};
 ghost use Rattle.cj_cluster.specs.declared.event.Event.{Event};
 ghost use Rattle.cj_cluster.specs.History.Histories.{is_enabled, log};
 ghost use Rattle.cj_cluster.specs.History.Legality.{IsLegal};
 ghost use Rattle.cj_board.specs.Seats.{front, pass_view};
 ghost use Rattle.cj_locked.specs.Changes.{BringsAt, BringsSince};
-ghost use Rattle.cj_locked.specs.Passes.{HasNotedMore};
+ghost use Rattle.cj_pass.specs.Passes.{HasNotedMore};
 
 use crate::book::LockedBook;
-use crate::naming::Naming;
-use crate::pass::{NamedBoard, Pass};
+use crate::turn::taken;
 use cj_book::BookError;
 use cj_outside::Store;
+use cj_pass::{NamedBoard, Naming, Pass};
 
 impl<J: Naming, S: Store + Drop> LockedBook<J, S> {
     /// Disables a backend, while nobody has the turn. False if it is disabled already.
@@ -46,17 +46,15 @@ impl<J: Naming, S: Store + Drop> LockedBook<J, S> {
         if !self.book.is_enabled(b) {
             return Ok(false);
         }
-        let Some(mut turn) = self.turn.take() else {
-            unreachable!()
-        };
+        let mut turn = taken(&mut self.turn);
         match self.book.disable(&board.board, b) {
             Ok(()) => {
                 turn.count(&mut self.ledger, 3);
-                self.turn = Some(turn);
+                self.turn = Some(turn.keep());
                 Ok(true)
             }
             Err(error) => {
-                self.turn = Some(turn);
+                self.turn = Some(turn.keep());
                 Err(error)
             }
         }
@@ -98,17 +96,15 @@ impl<J: Naming, S: Store + Drop> LockedBook<J, S> {
         if !wanted {
             return Ok(false);
         }
-        let Some(mut turn) = self.turn.take() else {
-            unreachable!()
-        };
+        let mut turn = taken(&mut self.turn);
         match self.book.enable(&board.board, b) {
             Ok(()) => {
                 turn.count(&mut self.ledger, 3);
-                self.turn = Some(turn);
+                self.turn = Some(turn.keep());
                 Ok(true)
             }
             Err(error) => {
-                self.turn = Some(turn);
+                self.turn = Some(turn.keep());
                 Err(error)
             }
         }

@@ -12,15 +12,14 @@ ghost use Rattle.cj_book.specs.Books.{placement_at};
 ghost use Rattle.cj_book.specs.Seated.{GivesOwnPassesOnly};
 ghost use Rattle.cj_locked.specs.Failures.{FailsAt, FailsSince};
 ghost use Rattle.cj_locked.specs.Locked.{LastIsNoted};
-ghost use Rattle.cj_locked.specs.Passes.{HasSeenMore};
+ghost use Rattle.cj_pass.specs.Passes.{HasSeenMore};
 
 use crate::book::LockedBook;
-use crate::naming::Naming;
-use crate::pass::{NamedBoard, Pass};
 use cj_board::Board;
 use cj_book::Book;
 use cj_model::Select;
 use cj_outside::Store;
+use cj_pass::{NamedBoard, Naming, Pass};
 
 /// What became of a failure in a query.
 #[derive(Clone, Copy)]

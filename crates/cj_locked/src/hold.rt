@@ -1,4 +1,4 @@
-//! The turn, held by who brings no event.
+//! The turn, held by who brings no event, and a look at which backends are enabled.
 
 ghost use Rattle.std.specs.Prelude.{◌≡◌, ℕ, List, None, true, false, length, is_none};
 ghost use mathlib.Core.List.{IsPrefix};
@@ -8,17 +8,15 @@ ghost use Rattle.cj_cluster.specs.History.Histories.{is_enabled, is_free, log};
 ghost use Rattle.cj_cluster.specs.History.Legality.{IsLegal};
 ghost use Rattle.cj_board.specs.Seats.{front, pass_view};
 ghost use Rattle.cj_locked.specs.Auditing.{HoldsTurn, IsHeldOver};
-ghost use Rattle.cj_locked.specs.Passes.{HasNotedMore};
+ghost use Rattle.cj_pass.specs.Passes.{HasNotedMore};
 ghost use Rattle.cj_locked.specs.Turns.{turn_amount};
 
 use crate::book::LockedBook;
-use crate::naming::Naming;
-use crate::pass::{NamedBoard, Pass};
-use crate::turn::Turn;
+use crate::turn::{Turn, taken};
 use cj_outside::Store;
+use cj_pass::{NamedBoard, Naming, Pass};
 
 /// The turn, and what stays while it is held: no entry is open.
-#[derive(Drop)]
 pub struct HeldTurn<J: Naming, S: Store> {
     /// The number of entries in the log.
     pub length: u64,
@@ -43,9 +41,7 @@ impl<J: Naming, S: Store + Drop> LockedBook<J, S> {
         self.book.tell(&board.board, &mut pass.seat);
         let length = self.book.length();
         let enabled = self.book.enabled();
-        let Some(mut turn) = self.turn.take() else {
-            unreachable!()
-        };
+        let mut turn = taken(&mut self.turn);
         turn.audit(&mut self.ledger);
         HeldTurn {
             length,
@@ -69,6 +65,20 @@ impl<J: Naming, S: Store + Drop> LockedBook<J, S> {
         turn.audit(&mut self.ledger);
         self.book.legal();
         self.book.tell(&board.board, &mut pass.seat);
-        self.turn = Some(turn);
+        self.turn = Some(turn.keep());
+    }
+
+    /// Shows the pass the whole history, and returns the mask of the backends that are enabled in it.
+    pub fn enabled(&mut self, board: &NamedBoard<J>, pass: &mut Pass<J>) -> u32
+        ensures enabled { (b : ℕ) → in_mask result b ≡ is_enabled (front pass.new.seat) b }
+        ensures more { HasNotedMore (pass_view pass.old.seat) (pass_view pass.new.seat) }
+        ensures legal { IsLegal (front pass.new.seat) }
+        ensures told { front pass.new.seat ≡ self.new.book.state.history }
+        ensures state { self.new.book.state ≡ self.old.book.state }
+        ensures log { self.new.log ≡ self.old.log }
+        ensures pending { self.new.book.pending ≡ self.old.book.pending }
+    {
+        self.tell(board, pass);
+        self.book.enabled()
     }
 }

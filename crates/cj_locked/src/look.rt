@@ -11,14 +11,13 @@ ghost use Rattle.cj_cluster.specs.History.Legality.{IsLegal};
 ghost use Rattle.cj_place.specs.Layouts.{placement_of};
 ghost use Rattle.cj_board.specs.Seats.{front, pass_view};
 ghost use Rattle.cj_locked.specs.Looking.{with_look, GivesKept, IsLookAt, IsLookUpOf, IsPickOf, LooksAt};
-ghost use Rattle.cj_locked.specs.Passes.{HasNotedMore};
+ghost use Rattle.cj_pass.specs.Passes.{HasNotedMore};
 
 use crate::book::{LockedBook, without};
-use crate::naming::Naming;
-use crate::pass::{NamedBoard, Pass};
 use cj_book::SharedAnswer;
 use cj_model::{Answer, BACKEND_LIMIT, Cached, NoMemory, Select};
 use cj_outside::Store;
+use cj_pass::{NamedBoard, Naming, Pass};
 use std::alloc::Global;
 use std::sync::Arc;
 

@@ -5,19 +5,17 @@ ghost use Rattle.cj_cluster.specs.History.Histories.{has_marker};
 ghost use Rattle.cj_cluster.specs.History.Legality.{IsLegal};
 ghost use Rattle.cj_board.specs.Seats.{front, pass_view};
 ghost use Rattle.cj_locked.specs.Marking.{BeginsMarkSince, HoldsMarked, MarksAt, MarksSince, RefusesMark};
-ghost use Rattle.cj_locked.specs.Passes.{HasNotedMore};
+ghost use Rattle.cj_pass.specs.Passes.{HasNotedMore};
 
 use crate::book::{LockedBook, refusal_weight};
-use crate::naming::Naming;
-use crate::pass::{NamedBoard, Pass};
-use crate::turn::Turn;
+use crate::turn::{Turn, taken};
 use cj_book::BookError;
 use cj_log::{LogError, LogItem};
 use cj_model::Name;
 use cj_outside::Store;
+use cj_pass::{NamedBoard, Naming, Pass};
 
 /// What the writer of a marker has while the marker is on its way into the recovery log.
-#[derive(Drop)]
 pub struct BegunMarker<J: Naming, S: Store> {
     /// The marker's item, which the log is to append.
     pub item: LogItem,
@@ -64,9 +62,7 @@ impl<J: Naming, S: Store + Drop> LockedBook<J, S> {
         ensures state { self.new.book.state ≡ self.old.book.state }
         ensures back { OnErr result (is_none self.new.log ≡ false) }
     {
-        let Some(mut turn) = self.turn.take() else {
-            unreachable!()
-        };
+        let mut turn = taken(&mut self.turn);
         turn.audit(&mut self.ledger);
         match self.book.begin_marker(name, b) {
             Ok(item) => {
@@ -74,7 +70,7 @@ impl<J: Naming, S: Store + Drop> LockedBook<J, S> {
                 Ok(BegunMarker { item, turn })
             }
             Err(error) => {
-                self.turn = Some(turn);
+                self.turn = Some(turn.keep());
                 Err(error)
             }
         }
@@ -123,12 +119,12 @@ impl<J: Naming, S: Store + Drop> LockedBook<J, S> {
         match self.book.finish_marker(&board.board, name, b, appended) {
             Ok(number) => {
                 turn.count(&mut self.ledger, 3);
-                self.turn = Some(turn);
+                self.turn = Some(turn.keep());
                 Ok(number)
             }
             Err(error) => {
                 turn.count(&mut self.ledger, refusal_weight(error));
-                self.turn = Some(turn);
+                self.turn = Some(turn.keep());
                 Err(error)
             }
         }

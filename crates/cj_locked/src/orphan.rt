@@ -8,21 +8,19 @@ ghost use Rattle.cj_board.specs.Seats.{front, pass_view};
 ghost use Rattle.cj_book.specs.Books as books;
 ghost use Rattle.cj_place.specs.Layouts.{placement_of};
 ghost use Rattle.cj_locked.specs.Orphans.{abort_entry_of, BeginsAbortSince, IsAbortOf, RefusesAbort, RefusesAppendedSince, SchedulesAbortSince};
-ghost use Rattle.cj_locked.specs.Passes.{HasNotedMore};
+ghost use Rattle.cj_pass.specs.Passes.{HasNotedMore};
 ghost use Rattle.cj_locked.specs.Writing.{HoldsAppended, HoldsEntry};
 
 use crate::book::{Begun, LockedBook, OpenEntry, refusal_weight};
-use crate::naming::Naming;
-use crate::pass::{NamedBoard, Pass};
-use crate::turn::Turn;
+use crate::turn::{Turn, taken};
 use cj_book::{BegunEntry, BookError, Counter, Prepared};
 use cj_log::LogError;
 use cj_model::{Act, Duplicate, Entry, NoMemory};
 use cj_outside::Store;
+use cj_pass::{NamedBoard, Naming, Pass};
 use std::alloc::Global;
 
 /// What the administrator has while the entry that ends an orphan is on its way into the recovery log.
-#[derive(Drop)]
 pub struct BegunAbort<J: Naming, S: Store> {
     pub begun: Begun<J, S>,
     pub entry: Entry,
@@ -96,9 +94,7 @@ impl<J: Naming, S: Store + Drop> LockedBook<J, S> {
         ensures state { self.new.book.state ≡ self.old.book.state }
         ensures back { OnErr result (is_none self.new.log ≡ false) }
     {
-        let Some(mut turn) = self.turn.take() else {
-            unreachable!()
-        };
+        let mut turn = taken(&mut self.turn);
         turn.audit(&mut self.ledger);
         self.book.legal();
         match self.book.begin_entry(e) {
@@ -111,7 +107,7 @@ impl<J: Naming, S: Store + Drop> LockedBook<J, S> {
                 })
             }
             Err(error) => {
-                self.turn = Some(turn);
+                self.turn = Some(turn.keep());
                 Err(error)
             }
         }
@@ -182,7 +178,7 @@ impl<J: Naming, S: Store + Drop> LockedBook<J, S> {
             }
             Err(error) => {
                 turn.count(&mut self.ledger, refusal_weight(error));
-                self.turn = Some(turn);
+                self.turn = Some(turn.keep());
                 Err(error)
             }
         }

@@ -6,13 +6,12 @@ ghost use Rattle.cj_cluster.specs.History.Legality.{IsLegal};
 ghost use Rattle.cj_board.specs.Counting.{event_count_of};
 ghost use Rattle.cj_board.specs.Seats.{front, pass_view};
 ghost use Rattle.cj_book.specs.Books.{with_session, without_session, HasGivenAll};
-ghost use Rattle.cj_locked.specs.Passes.{HasNotedMore, WasGiven};
+ghost use Rattle.cj_pass.specs.Passes.{HasNotedMore, WasGiven};
 
 use crate::book::LockedBook;
-use crate::naming::Naming;
-use crate::pass::{NamedBoard, Pass};
 use cj_book::OwnError;
 use cj_outside::Store;
+use cj_pass::{NamedBoard, Naming, Pass};
 
 impl<J: Naming, S: Store + Drop> LockedBook<J, S> {
     /// Opens a session with its own pass, which has seen the history and has counted each event of the session.

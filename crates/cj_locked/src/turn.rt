@@ -1,6 +1,6 @@
 //! The turn: who has it alone may bring an event, but for a failure in a read.
 
-ghost use Rattle.std.specs.Prelude.{◌≡◌, ◌+◌, ◌≤◌, ℕ, Option, List, length, true, OnOk, IsErrOf};
+ghost use Rattle.std.specs.Prelude.{◌≡◌, ◌+◌, ◌≤◌, ℕ, Option, None, Some, List, length, true, false, is_none, option_map, OnOk, IsErrOf};
 ghost use Rattle.cj_model.specs.declared.request.Entry.{Entry};
 ghost use Rattle.cj_cluster.specs.declared.event.Event.{Event};
 ghost use Rattle.cj_cluster.specs.History.Histories.{log};
@@ -13,21 +13,55 @@ ghost use Rattle.cj_book.specs.BookLogs.{LogFollows};
 ghost use Rattle.cj_locked.specs.Marking.{FollowsMarker};
 ghost use Rattle.cj_locked.specs.Writing.{FollowsAppend};
 
-use crate::naming::{Naming, TurnLedger};
 use cj_book::BookLog;
 use cj_log::{LogError, LogItem};
 use cj_outside::Store;
-use std::sync::ledger::{Book, Share};
+use cj_pass::Naming;
+use std::marker::PhantomData;
+use std::sync::ledger::{Book, Ledger, Share};
+
+/// The ledger of the turn. It has one part, so whoever has the turn has the whole.
+pub struct TurnLedger<J: Naming> {
+    of: PhantomData<J>,
+}
+
+impl<J: Naming> Ledger for TurnLedger<J> {
+    ghost name = { J.turn };
+
+    ghost parts = { 1 };
+}
 
 /// The turn, of which there is one. Who has it has the recovery log too, so an append to that needs no lock.
 ///
+/// It can't be dropped or copied: who has it gives it back to the book. So no writer can end without the turn, which
+/// would stop the cluster.
+///
 /// Its amount tells which events came that need the turn (`turn_amount`). So whoever has it knows that none came
 /// meanwhile: the open entry is still open, and the same backends are enabled.
-#[derive(Drop)]
 pub struct Turn<J: Naming, S: Store> {
     pub(crate) share: Share<TurnLedger<J>>,
     pub(crate) log: BookLog<S>,
     ghost whole: { share.parts ≡ 1 },
+}
+
+/// The turn in the book, while nobody has it. It goes with the book, so it can be dropped.
+#[derive(Drop)]
+pub(crate) struct KeptTurn<J: Naming, S: Store> {
+    share: Share<TurnLedger<J>>,
+    pub(crate) log: BookLog<S>,
+    ghost whole: { share.parts ≡ 1 },
+}
+
+/// Takes the turn out of the book.
+pub(crate) fn taken<J: Naming, S: Store>(kept: &mut Option<KeptTurn<J, S>>) -> Turn<J, S>
+    requires { is_none kept.old ≡ false }
+    ensures gone { kept.new ≡ None }
+    ensures log { option_map (λ turn. turn.log) kept.old ≡ Some result.log }
+{
+    match kept.take() {
+        Some(KeptTurn { share, log }) => Turn { share, log },
+        None => unreachable!(),
+    }
 }
 
 impl<J: Naming, S: Store> Turn<J, S> {
@@ -56,6 +90,14 @@ impl<J: Naming, S: Store> Turn<J, S> {
         ensures follows_marker { (h : List Event) (name : List ℕ) (b : Option ℕ) → LogFollows S.tells S.faults self.old.log h → item ≡ openings.marker_item (length (log h)) name b → FollowsMarker S.tells S.faults self.new.log h name b result }
     {
         self.log.append(item)
+    }
+
+    /// Gives the turn to the book.
+    pub(crate) fn keep(self) -> KeptTurn<J, S>
+        ensures { result.log ≡ self.log }
+    {
+        let Turn { share, log } = self;
+        KeptTurn { share, log }
     }
 
     /// Shows that the ledger's total is the turn's amount.

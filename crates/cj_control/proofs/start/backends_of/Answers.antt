@@ -1,9 +1,9 @@
-use Rattle.std.proofs.Common.{◌≡◌, ◌+◌, length, ap, sym, ◌∙◌, subst, arith}
+use Rattle.std.proofs.Common.{length, ap, sym, ◌∙◌, subst}
 use mathlib.Core.List.{IsPrefix}
-use Rattle.cj_board.specs.Seats.{front, pass_view}
+use Rattle.cj_board.specs.Seats.{front}
 use Rattle.cj_board.specs.declared.view.SeatView.{SeatView}
 use Rattle.cj_place.specs.Layouts.{placement_of}
-use Rattle.cj_control.specs.Starting.{FallTo, HoldFrom, IsCurrentAt}
+use Rattle.cj_control.specs.Starting.{IsCurrentAt}
 use Rattle.cj_control.proofs.Starting.{all_pop, current_at, fall_next, fall_on, hold_more, moves_one, stays_room}
 use Rattle.cj_control.proofs.start.backends_of.Goals as goal
 

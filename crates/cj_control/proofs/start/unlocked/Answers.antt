@@ -3,7 +3,7 @@ use mathlib.Core.List.{IsPrefix}
 use Rattle.std.proofs.lemmas.List.Elements.{All-push}
 use Rattle.cj_board.specs.Seats.{front, pass_view}
 use Rattle.cj_replica.specs.Cells.{CellState}
-use Rattle.cj_locked.proofs.Passes.{noted_then}
+use Rattle.cj_pass.proofs.Passes.{noted_then}
 use Rattle.cj_control.proofs.Starting.{all_seen, fall_more, moves_one, stays_room}
 use Rattle.cj_control.proofs.start.unlocked.Goals as goal
 

@@ -2,7 +2,7 @@ use Rattle.std.proofs.Common.{◌≡◌, ◌+◌, ◌≤◌, All, length, vec_ca
 use mathlib.Core.List.{IsPrefix}
 use Rattle.cj_board.specs.Seats.{front, pass_view}
 use Rattle.cj_cluster.specs.History.Legality.{IsLegal}
-use Rattle.cj_locked.specs.Passes.{HasNotedMore}
+use Rattle.cj_pass.specs.Passes.{HasNotedMore}
 use Rattle.cj_control.specs.Starting.{FallTo}
 use Rattle.cj_control.proofs.start.unlocked.Given as goal
 

@@ -1,5 +1,4 @@
 use Rattle.std.proofs.Common.{◌≡◌, ◌+◌, ◌≤◌, length, ap, sym, ◌∙◌, subst, arith}
-use Rattle.cj_model.specs.declared.answer.Reply.{Reply}
 use Rattle.cj_model.specs.declared.request.Entry.{Entry}
 use Rattle.cj_model.specs.Sql.PlainRequests.{request_of}
 use Rattle.cj_cluster.specs.History.Histories.{log}
@@ -9,7 +8,7 @@ use Rattle.cj_desk.specs.DeskStates.{next_call, turn_taken, DeskSteps, IsEntryNu
 use Rattle.cj_locked.specs.Writing.{AreUpTo, WritesTurn}
 use Rattle.cj_place.specs.Layouts.{placement_of}
 use Rattle.cj_control.specs.Callers.{desk_at}
-use Rattle.cj_control.specs.Writing.{least_after}
+use Rattle.cj_locks.specs.Writing.{least_after}
 use Rattle.cj_control.proofs.Callers.{owes_after, starved_counted, starved_turn, write_made, write_number, write_tx}
 use Rattle.cj_control.proofs.caller.CallerDesk.write.Goals as goal
 
@@ -42,7 +41,7 @@ returns-in-Ok-clause-made g c =
     let number = c.write-number.result.0 in
     let reply = c.write-number.result.1 in
     let layout = g.J.Naming.layout in
-    let register = self.control.now.accounts in
+    let register = self.control.now.locks.accounts in
     let came = subst (λ (x : Entry). WritesTurn g.B.Backend.tells (placement_of layout) x.session (record { front = F; least = self.least }) x number reply (record { front = G; least = least_after number self.least })) c.in-Ok.ensures.entry (c.write-number.ensures.turn self.least self.owes) in
     let before = desk_at layout register self.session F self.least self.queries in
     subst (λ k. DeskSteps g.B.Backend.tells before (turn_taken (next_call before c.args.tx c.args.user.now (request_of c.args.act) reply)) (desk_at layout register self.session G k (self.queries + 1))) (sym c.least_after-self.ensures)
@@ -57,7 +56,7 @@ returns-in-Ok-clause-tx g c =
     let reply = c.write-number.result.1 in
     let layout = g.J.Naming.layout in
     let came = subst (λ (x : Entry). WritesTurn g.B.Backend.tells (placement_of layout) x.session (record { front = F; least = self.least }) x number reply (record { front = G; least = least_after number self.least })) c.in-Ok.ensures.entry (c.write-number.ensures.turn self.least self.owes) in
-    write_tx g.B.Backend.tells layout self.control.now.accounts self.session F G self.least self.queries c.args.tx c.args.user.now c.args.act number reply came
+    write_tx g.B.Backend.tells layout self.control.now.locks.accounts self.session F G self.least self.queries c.args.tx c.args.user.now c.args.act number reply came
 
 pub returns-in-Ok-clause-number : goal.returns-in-Ok-clause-number
 returns-in-Ok-clause-number g c =
@@ -68,7 +67,7 @@ returns-in-Ok-clause-number g c =
     let reply = c.write-number.result.1 in
     let layout = g.J.Naming.layout in
     let came = subst (λ (x : Entry). WritesTurn g.B.Backend.tells (placement_of layout) x.session (record { front = F; least = self.least }) x number reply (record { front = G; least = least_after number self.least })) c.in-Ok.ensures.entry (c.write-number.ensures.turn self.least self.owes) in
-    let register = self.control.now.accounts in
+    let register = self.control.now.locks.accounts in
     let before = desk_at layout register self.session F self.least self.queries in
     subst (λ k. IsEntryNumber number c.args.act before (next_call before c.args.tx c.args.user.now (request_of c.args.act) reply) (desk_at layout register self.session G k (self.queries + 1))) (sym c.least_after-self.ensures)
     (write_number g.B.Backend.tells layout register self.session F G self.least self.queries c.args.tx c.args.user.now c.args.act number reply came)
@@ -99,7 +98,7 @@ returns-in-Err-clause-made g c =
     starved_turn g.B.Backend.tells (placement_of g.J.Naming.layout) self.session self.least self.queries c.args.tx c.args.user.now c.args.act v w c.starve-reply.result (self.own.1, self.own.2) self.newer c.requires.can.room c.requires.fits
     self.owes self.own.0 self.counted c.starve-reply.ensures.is c.starve-reply.ensures.seen c.starve-reply.ensures.few c.starve-reply.ensures.legal
     in
-    write_made g.B.Backend.tells g.J.Naming.layout self.control.now.accounts self.session v.front w.front self.least self.queries c.args.tx c.args.user.now c.args.act 0 c.starve-reply.result came
+    write_made g.B.Backend.tells g.J.Naming.layout self.control.now.locks.accounts self.session v.front w.front self.least self.queries c.args.tx c.args.user.now c.args.act 0 c.starve-reply.result came
 
 pub returns-in-Err-clause-tx : goal.returns-in-Err-clause-tx
 returns-in-Err-clause-tx g c =
@@ -110,7 +109,7 @@ returns-in-Err-clause-tx g c =
     starved_turn g.B.Backend.tells (placement_of g.J.Naming.layout) self.session self.least self.queries c.args.tx c.args.user.now c.args.act v w c.starve-reply.result (self.own.1, self.own.2) self.newer c.requires.can.room c.requires.fits
     self.owes self.own.0 self.counted c.starve-reply.ensures.is c.starve-reply.ensures.seen c.starve-reply.ensures.few c.starve-reply.ensures.legal
     in
-    write_tx g.B.Backend.tells g.J.Naming.layout self.control.now.accounts self.session v.front w.front self.least self.queries c.args.tx c.args.user.now c.args.act 0 c.starve-reply.result came
+    write_tx g.B.Backend.tells g.J.Naming.layout self.control.now.locks.accounts self.session v.front w.front self.least self.queries c.args.tx c.args.user.now c.args.act 0 c.starve-reply.result came
 
 pub returns-in-Err-clause-number : goal.returns-in-Err-clause-number
 returns-in-Err-clause-number g c =
@@ -121,4 +120,4 @@ returns-in-Err-clause-number g c =
     starved_turn g.B.Backend.tells (placement_of g.J.Naming.layout) self.session self.least self.queries c.args.tx c.args.user.now c.args.act v w c.starve-reply.result (self.own.1, self.own.2) self.newer c.requires.can.room c.requires.fits
     self.owes self.own.0 self.counted c.starve-reply.ensures.is c.starve-reply.ensures.seen c.starve-reply.ensures.few c.starve-reply.ensures.legal
     in
-    write_number g.B.Backend.tells g.J.Naming.layout self.control.now.accounts self.session v.front w.front self.least self.queries c.args.tx c.args.user.now c.args.act 0 c.starve-reply.result came
+    write_number g.B.Backend.tells g.J.Naming.layout self.control.now.locks.accounts self.session v.front w.front self.least self.queries c.args.tx c.args.user.now c.args.act 0 c.starve-reply.result came

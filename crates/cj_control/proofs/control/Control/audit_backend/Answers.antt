@@ -12,4 +12,4 @@ returns-in-Ok-append_backend-clause-lines g c =
     let new = front c.contents_at-contents.new.pass.seat in
     λ h seen length_is is tells. its_lines g.J.Naming.layout.names (placement_of g.J.Naming.layout) h c.args.b (in_mask c.args.enabled c.args.b) yes is c.args.n length_is new
     (prefix_trans h (front c.args.pass.now.seat) new seen c.contents_at-contents.ensures.more.seen.front) c.in-Ok.database (c.in-Ok.ensures.gives.2 tells) c.name.result.now
-    (ap (λ (l : Layout). slice_get l.names c.args.b) (sym c.args.self.now.laid) ∙ c.name.ensures) c.args.text.now.items c.append_backend.new.text.items c.in-Ok-append_backend.ensures.ok
+    (ap (λ (l : Layout). slice_get l.names c.args.b) (sym c.args.self.now.locks.laid) ∙ c.name.ensures) c.args.text.now.items c.append_backend.new.text.items c.in-Ok-append_backend.ensures.ok

@@ -3,7 +3,7 @@ use Rattle.std.specs.List.{flat_map, range_with_len}
 use Rattle.cj_model.specs.Sql.Names.{IsText}
 use Rattle.cj_board.specs.Seats.{front, pass_view}
 use Rattle.cj_place.specs.Layouts.{placement_of}
-use Rattle.cj_locked.specs.Passes.{HasNotedMore}
+use Rattle.cj_pass.specs.Passes.{HasNotedMore}
 use Rattle.cj_control.specs.Auditing.{audit_lines_at}
 use Rattle.cj_control.proofs.control.Control.audit_each.Given as goal
 

@@ -2,7 +2,7 @@ use Rattle.std.proofs.Common.{sym, subst}
 use Rattle.cj_board.specs.Seats.{front, pass_view}
 use Rattle.cj_board.specs.declared.view.SeatView.{SeatView}
 use Rattle.cj_place.specs.Layouts.{placement_of}
-use Rattle.cj_locked.proofs.Passes.{noted_same, noted_then}
+use Rattle.cj_pass.proofs.Passes.{noted_same, noted_then}
 use Rattle.cj_control.specs.Starting.{HoldFrom, IsCurrentAt}
 use Rattle.cj_control.proofs.control.Control.into_backends.Goals as goal
 

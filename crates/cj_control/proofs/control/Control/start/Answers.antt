@@ -1,4 +1,4 @@
-use Rattle.std.proofs.Common.{◌≡◌, Bool, All, length, sym, ◌∙◌, subst}
+use Rattle.std.proofs.Common.{◌≡◌, Bool, All, sym, subst}
 use Rattle.atomic_table.specs.Seated.{TableId}
 use Rattle.cj_board.specs.Seats.{board_id, pass_board}
 use Rattle.cj_cluster.specs.History.Freshness.{IsFreshCache}

@@ -7,14 +7,15 @@ use Rattle.cj_locked.specs.Locked.{IsVacant}
 use Rattle.cj_locked.specs.Marking.{BeginsMarkSince, RefusesMark}
 use Rattle.cj_locked.specs.Turns.{turn_amount}
 use Rattle.cj_locked.proofs.Marking.{amount_mark_begun, mark_begins, mark_refused}
+use Rattle.cj_locked.proofs.Holding.{taken_vacant}
 use Rattle.cj_locked.proofs.book.LockedBook.begin_fresh.Goals as goal
 
 pub returns-in-Ok-clause-ok : goal.returns-in-Ok-clause-ok
 returns-in-Ok-clause-ok g c =
     let h = c.self.inside.book.state.history in
-    let vacant : IsVacant g.S.Store.tells g.S.Store.faults c.self.inside.book c.in-Some.turn.log = search rules in
+    let vacant : IsVacant g.S.Store.tells g.S.Store.faults c.self.inside.book c.taken-turn.result.log = taken_vacant g.S.Store.tells g.S.Store.faults c.self.inside.book _ c.taken-turn.result.log c.taken-turn.ensures.log c.self.invariant.vacant in
     let before : c.args.self.now.book.state.history ≡ c.self.inside.book.state.history = search rules in
-    let same : c.count.new.self.log ≡ c.in-Some.turn.log = c.count.ensures.log ∙ c.audit.ensures.log in
+    let same : c.count.new.self.log ≡ c.taken-turn.result.log = c.count.ensures.log ∙ c.audit.ensures.log in
     let amount : c.count.new.self.share.amount ≡ turn_amount h (Some pending.Marker) = c.count.ensures.amount
     ∙ (ap (λ n. n + 2) (c.audit.ensures.amount ∙ (c.audit.ensures.whole ∙ c.self.invariant.counted)) ∙ amount_mark_begun h c.self.inside.book.pending vacant.unpending)
     in

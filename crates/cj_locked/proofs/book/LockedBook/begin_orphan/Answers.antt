@@ -11,6 +11,7 @@ use Rattle.cj_locked.specs.Orphans.{abort_entry_of, BeginsAbortSince, RefusesAbo
 use Rattle.cj_locked.specs.Turns.{turn_amount}
 use Rattle.cj_locked.proofs.Beginning.{amount_begun}
 use Rattle.cj_locked.proofs.Orphans.{abort_begins, abort_fits, abort_refused}
+use Rattle.cj_locked.proofs.Holding.{taken_vacant}
 use Rattle.cj_locked.proofs.book.LockedBook.begin_orphan.Goals as goal
 
 pub begin_entry-requires-clause-fit : goal.begin_entry-requires-clause-fit
@@ -33,13 +34,13 @@ returns-in-Ok-clause-ok g c =
     let n = g.S.Store.faults in
     let old = c.self.inside.book.state in
     let e = c.args.e.now in
-    let vacant : IsVacant t n c.self.inside.book c.in-Some.turn.log = search rules in
+    let vacant : IsVacant t n c.self.inside.book c.taken-turn.result.log = search rules in
     let laid : placement_at old ≡ p = ap placement_of c.self.invariant.laid in
     let same : c.args.self.now.book.state ≡ old = search rules in
     let orphan = subst (λ (b : BookState). is_orphan b e.tx ≡ true) same c.requires.orphan in
     let is = subst (λ (b : BookState). e ≡ abort_entry_of (log b.history) e.tx) same c.requires.is in
     let fit : IsFitEntry (log old.history) e = subst (IsFitEntry (log old.history)) (sym is) (abort_fits old e.tx c.legal.ensures.legal orphan) in
-    let same_log : c.count.new.self.log ≡ c.in-Some.turn.log = c.count.ensures.log ∙ c.audit.ensures.log in
+    let same_log : c.count.new.self.log ≡ c.taken-turn.result.log = c.count.ensures.log ∙ c.audit.ensures.log in
     let amount : c.count.new.self.share.amount ≡ turn_amount old.history (Some pending.Entry) = c.count.ensures.amount
     ∙ (ap (λ k. k + 1) (c.audit.ensures.amount ∙ (c.audit.ensures.whole ∙ c.self.invariant.counted)) ∙ amount_begun old.history c.self.inside.book.pending vacant.unpending)
     in
@@ -50,7 +51,7 @@ returns-in-Ok-clause-ok g c =
 pub returns-in-Err-clause-err : goal.returns-in-Err-clause-err
 returns-in-Err-clause-err g c =
     let old = c.self.inside.book.state in
-    let vacant : IsVacant g.S.Store.tells g.S.Store.faults c.self.inside.book c.in-Some.turn.log = search rules in
+    let vacant : IsVacant g.S.Store.tells g.S.Store.faults c.self.inside.book c.taken-turn.result.log = taken_vacant g.S.Store.tells g.S.Store.faults c.self.inside.book _ c.taken-turn.result.log c.taken-turn.ensures.log c.self.invariant.vacant in
     let same : c.args.self.now.book.state ≡ old = search rules in
     let is = c.requires.is in
     subst (λ (b : BookState). RefusesAbort b.history c.in-Err.error) (sym same) (abort_refused old c.args.e.now (ap (λ (x : Entry). x.act) is) vacant.idle c.begin_entry.result c.begin_entry.ensures.begins c.in-Err.error c.in-Err.is)

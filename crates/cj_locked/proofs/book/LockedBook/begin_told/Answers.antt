@@ -12,6 +12,7 @@ use Rattle.cj_locked.specs.Locked.{IsVacant}
 use Rattle.cj_locked.specs.Turns.{turn_amount}
 use Rattle.cj_locked.proofs.Beginning.{amount_begun, begins_now, refuses_now}
 use Rattle.cj_locked.proofs.Noting.{keeps_learning, still_noted}
+use Rattle.cj_locked.proofs.Holding.{taken_vacant}
 use Rattle.cj_locked.proofs.book.LockedBook.begin_told.Goals as goal
 
 pub invariant_of-self : goal.invariant_of-self
@@ -40,11 +41,11 @@ pub returns-in-Ok-clause-ok : goal.returns-in-Ok-clause-ok
 returns-in-Ok-clause-ok g c =
     let p = placement_of g.J.Naming.layout in
     let old = c.self.inside.book.state in
-    let vacant : IsVacant g.S.Store.tells g.S.Store.faults c.self.inside.book c.in-Some.turn.log = search rules in
+    let vacant : IsVacant g.S.Store.tells g.S.Store.faults c.self.inside.book c.taken-turn.result.log = taken_vacant g.S.Store.tells g.S.Store.faults c.self.inside.book _ c.taken-turn.result.log c.taken-turn.ensures.log c.self.invariant.vacant in
     let laid : placement_at old ≡ p = ap placement_of c.self.invariant.laid in
     let before : front c.args.pass.now.seat ≡ old.history = search rules in
     let fit : IsFitEntry (log old.history) c.args.e.now = subst (λ (h : List Event). IsFitEntry (log h) c.args.e.now) before c.requires.fit in
-    let same : c.count.new.self.log ≡ c.in-Some.turn.log = c.count.ensures.log ∙ c.audit.ensures.log in
+    let same : c.count.new.self.log ≡ c.taken-turn.result.log = c.count.ensures.log ∙ c.audit.ensures.log in
     let amount : c.count.new.self.share.amount ≡ turn_amount old.history (Some pending.Entry) = c.count.ensures.amount
     ∙ (ap (λ n. n + 1) (c.audit.ensures.amount ∙ (c.audit.ensures.whole ∙ c.self.invariant.counted)) ∙ amount_begun old.history c.self.inside.book.pending vacant.unpending)
     in
@@ -55,7 +56,7 @@ pub returns-in-Err-clause-err : goal.returns-in-Err-clause-err
 returns-in-Err-clause-err g c =
     let p = placement_of g.J.Naming.layout in
     let old = c.self.inside.book.state in
-    let vacant : IsVacant g.S.Store.tells g.S.Store.faults c.self.inside.book c.in-Some.turn.log = search rules in
+    let vacant : IsVacant g.S.Store.tells g.S.Store.faults c.self.inside.book c.taken-turn.result.log = taken_vacant g.S.Store.tells g.S.Store.faults c.self.inside.book _ c.taken-turn.result.log c.taken-turn.ensures.log c.self.invariant.vacant in
     let laid : placement_at old ≡ p = ap placement_of c.self.invariant.laid in
     let before : front c.args.pass.now.seat ≡ old.history = search rules in
     refuses_now p old laid c.args.e.now vacant.idle c.begin_own.result c.begin_own.ensures.begins c.in-Err.error c.in-Err.is (front c.args.pass.now.seat) (front c.begin_own.new.p) before c.begin_own.ensures.told

@@ -9,12 +9,13 @@ use Rattle.cj_locked.specs.Locked.{IsVacant}
 use Rattle.cj_locked.proofs.Changing.{amount_more, disabled_vacant, refused_at}
 use Rattle.cj_locked.proofs.Fresh.{fresh_event}
 use Rattle.cj_locked.proofs.Noting.{keeps_event, still_noted}
+use Rattle.cj_locked.proofs.Holding.{taken_vacant}
 use Rattle.cj_locked.proofs.book.LockedBook.disable_now.Goals as goal
 
 pub invariant_of-self : goal.invariant_of-self
 invariant_of-self g c =
     let old = c.self.inside.book in
-    let vacant : IsVacant g.S.Store.tells g.S.Store.faults c.self.inside.book c.in-Some.turn.log = search rules in
+    let vacant : IsVacant g.S.Store.tells g.S.Store.faults c.self.inside.book c.taken-turn.result.log = taken_vacant g.S.Store.tells g.S.Store.faults c.self.inside.book _ c.taken-turn.result.log c.taken-turn.ensures.log c.self.invariant.vacant in
     let now : c.disable.new.self.state ≡ with_event old.state (Disabled c.args.b) = c.in-Ok.ensures.state.ok in
     record {
       on = c.disable.ensures.board ∙ c.self.invariant.on;
@@ -23,8 +24,8 @@ invariant_of-self g c =
       counted = c.count.ensures.total
           ∙ (ap (λ k. k + 3) c.self.invariant.counted
           ∙ amount_more old.state.history old.pending (Disabled c.args.b) refl c.disable.new.self.state.history c.disable.new.self.pending (ap (λ (x : BookState). x.history) now) c.disable.ensures.pending);
-      vacant = subst (λ (l : BookLogState _). IsVacant g.S.Store.tells g.S.Store.faults c.disable.new.self l) (sym c.count.ensures.log)
-          (disabled_vacant g.S.Store.tells g.S.Store.faults old c.disable.new.self c.in-Some.turn.log vacant c.disable.ensures.pending c.args.b now);
+      vacant = subst (λ (l : BookLogState _). IsVacant g.S.Store.tells g.S.Store.faults c.disable.new.self l) (sym (c.keep.ensures ∙ c.count.ensures.log))
+          (disabled_vacant g.S.Store.tells g.S.Store.faults old c.disable.new.self c.taken-turn.result.log vacant c.disable.ensures.pending c.args.b now);
       fresh = fresh_event g.J.Naming.tells old.state c.disable.new.self.state (Disabled c.args.b) refl now c.self.invariant.fresh;
       noted = still_noted old.view c.disable.new.self.view (keeps_event _ old.view c.disable.new.self.view c.disable.ensures.seat) c.self.invariant.noted;
     }

@@ -1,5 +1,5 @@
 use Rattle.cj_board.specs.Seats.{pass_view}
-use Rattle.cj_locked.proofs.Passes.{noted_then}
+use Rattle.cj_pass.proofs.Passes.{noted_then}
 use Rattle.cj_locked.proofs.book.LockedBook.enable.Goals as goal
 
 pub returns-clause-more : goal.returns-clause-more

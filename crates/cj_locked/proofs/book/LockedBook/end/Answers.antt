@@ -55,7 +55,7 @@ invariant_of-self g c =
       vacant = record {
         idle = subst (λ (x : List Event). is_free x ≡ true) (sym now) (end_idle g.S.Store.tells g.S.Store.faults l F h c.args.entry.number c.args.e.now c.args.entry.turn.share.amount c.args.entry.turn.log c.requires.holds c.learn.ensures.seen c.learn.new.self.pending whole c.settled-tally.result.failed c.settled-tally.result.starved);
         unpending = none;
-        follows = subst (λ (x : BookLogState _). LogFollows g.S.Store.tells g.S.Store.faults x c.tell.new.self.state.history) (sym (c.count.ensures.log ∙ c.audit.ensures.log))
+        follows = subst (λ (x : BookLogState _). LogFollows g.S.Store.tells g.S.Store.faults x c.tell.new.self.state.history) (sym (c.keep.ensures ∙ (c.count.ensures.log ∙ c.audit.ensures.log)))
             (subst (λ (x : List Event). LogFollows g.S.Store.tells g.S.Store.faults c.args.entry.turn.log x) (sym now)
             (end_follows g.S.Store.tells g.S.Store.faults l F h c.args.entry.number c.args.e.now c.args.entry.turn.share.amount c.args.entry.turn.log c.requires.holds c.learn.ensures.seen c.learn.new.self.pending whole c.settled-tally.result.failed c.settled-tally.result.starved));
       };

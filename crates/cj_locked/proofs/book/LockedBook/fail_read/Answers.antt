@@ -8,7 +8,7 @@ use Rattle.cj_book.specs.Books.{placement_at, BookState}
 use Rattle.cj_locked.specs.Failures.{FailsAt}
 use Rattle.cj_locked.proofs.Ending.{same_counted}
 use Rattle.cj_locked.proofs.Failing.{failed_amount, failed_fresh, failed_since, failed_state, failed_vacant, gives_on, learned_tokens, read_ended, seen_split}
-use Rattle.cj_locked.proofs.Passes.{noted_joined, seen_then}
+use Rattle.cj_pass.proofs.Passes.{noted_joined, seen_then}
 use Rattle.cj_locked.proofs.Noting.{keeps_learning, keeps_same, still_noted}
 use Rattle.cj_locked.proofs.book.LockedBook.fail_read.Goals as goal
 

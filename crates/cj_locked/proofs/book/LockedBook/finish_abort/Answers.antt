@@ -11,7 +11,7 @@ use Rattle.cj_locked.specs.Writing.{HoldsEntry}
 use Rattle.cj_locked.proofs.Beginning.{err_weaker, ok_weaker}
 use Rattle.cj_locked.proofs.Finishing.{appended_on}
 use Rattle.cj_locked.proofs.Orphans.{abort_scheduled_earlier, abort_unfinished_earlier}
-use Rattle.cj_locked.proofs.Passes.{noted_then}
+use Rattle.cj_pass.proofs.Passes.{noted_then}
 use Rattle.cj_locked.proofs.book.LockedBook.finish_abort.Goals as goal
 
 pub finish_orphan-finished-requires-clause-orphan : goal.finish_orphan-finished-requires-clause-orphan

@@ -3,7 +3,7 @@ use mathlib.Core.List.{IsPrefix}
 use Rattle.cj_board.specs.Seats.{front, pass_view}
 use Rattle.cj_book.specs.Books.{BookState}
 use Rattle.cj_locked.proofs.Marking.{marked_on}
-use Rattle.cj_locked.proofs.Passes.{noted_then}
+use Rattle.cj_pass.proofs.Passes.{noted_then}
 use Rattle.cj_locked.proofs.book.LockedBook.finish_marker.Goals as goal
 
 pub mark_now-marked-requires : goal.mark_now-marked-requires

@@ -1,6 +1,5 @@
 use Rattle.std.proofs.Common.{rules, ◌≡◌, ◌+◌, List, [], ◌∷◌, ◌++◌, length, true, Some, Ok, Err, ap, sym, ◌∙◌, subst, inr}
 use Rattle.cj_model.specs.Cluster.Placements.{Placement}
-use Rattle.cj_model.specs.declared.request.Entry.{Entry}
 use Rattle.cj_cluster.specs.declared.event.Event.{Event}
 use Rattle.cj_cluster.specs.declared.event.Event.TheVariants.{Sched}
 use Rattle.cj_cluster.specs.History.Histories.{is_free, log}
@@ -86,7 +85,7 @@ invariant_of-self-in-Err g c =
     let awaited : c.self.inside.book.pending ≡ Some pending.Entry = is_pending g.S.Store.tells g.S.Store.faults (placement_of g.J.Naming.layout) c.args.self.now.book.state.history e c.args.prepared c.args.turn.share.amount c.args.turn.log a c.requires.holds old before c.self.inside.book.pending whole in
     let total : c.uncount.new.ledger.total + 1 ≡ turn_amount old.history (Some pending.Entry) = c.uncount.ensures.total ∙ (c.audit.ensures.total ∙ (c.self.invariant.counted ∙ ap (turn_amount old.history) awaited)) in
     let now : f.new.self.state.history ≡ (entry_finished old e a).history = ap (λ (x : BookState). x.history) f.ensures.state in
-    let same : c.count-in-Err.new.self.log ≡ c.args.turn.log = c.count-in-Err.ensures.log ∙ (c.uncount.ensures.log ∙ c.audit.ensures.log) in
+    let same : c.keep.result.log ≡ c.args.turn.log = c.keep.ensures ∙ (c.count-in-Err.ensures.log ∙ (c.uncount.ensures.log ∙ c.audit.ensures.log)) in
     record {
       on = f.ensures.board ∙ c.self.invariant.on;
       laid = ap (λ (x : BookState). x.layout) f.ensures.state ∙ (finished_layout old e a ∙ c.self.invariant.laid);

@@ -67,7 +67,7 @@ invariant_of-self-in-Err g c =
     let awaited : c.self.inside.book.pending ≡ Some pending.Entry = is_pending g.S.Store.tells g.S.Store.faults (placement_of g.J.Naming.layout) (front c.args.pass.now.seat) c.args.e c.args.prepared c.args.turn.share.amount c.args.turn.log c.args.appended c.requires.holds c.self.inside.book.state before c.self.inside.book.pending whole in
     let total : c.uncount.new.ledger.total + 1 ≡ turn_amount old.history (Some pending.Entry) = c.uncount.ensures.total ∙ (c.audit.ensures.total ∙ (c.self.invariant.counted ∙ ap (turn_amount old.history) awaited)) in
     let now : c.finish_own-finished.new.self.state.history ≡ (entry_finished old e a).history = ap (λ (x : BookState). x.history) c.finish_own-finished.ensures.state in
-    let same : c.count-in-Err.new.self.log ≡ c.args.turn.log = c.count-in-Err.ensures.log ∙ (c.uncount.ensures.log ∙ c.audit.ensures.log) in
+    let same : c.keep.result.log ≡ c.args.turn.log = c.keep.ensures ∙ (c.count-in-Err.ensures.log ∙ (c.uncount.ensures.log ∙ c.audit.ensures.log)) in
     record {
       on = c.finish_own-finished.ensures.board.0 ∙ c.self.invariant.on;
       laid = ap (λ (x : BookState). x.layout) c.finish_own-finished.ensures.state ∙ (finished_layout old e a ∙ c.self.invariant.laid);

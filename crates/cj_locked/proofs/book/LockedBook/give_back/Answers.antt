@@ -7,7 +7,7 @@ use Rattle.cj_board.specs.Views.{pass_without_tokens}
 use Rattle.cj_book.specs.Books.{BookState}
 use Rattle.cj_locked.proofs.Ending.{same_counted}
 use Rattle.cj_locked.proofs.Holding.{given_back, held_over, held_since}
-use Rattle.cj_locked.proofs.Passes.{noted_joined}
+use Rattle.cj_pass.proofs.Passes.{noted_joined}
 use Rattle.cj_locked.proofs.Noting.{keeps_learning, still_noted}
 use Rattle.cj_locked.proofs.book.LockedBook.give_back.Goals as goal
 
@@ -21,7 +21,7 @@ invariant_of-self g c =
       gives = c.tell.ensures.still_gives c.self.invariant.gives;
       counted = c.audit.ensures.total ∙ (c.self.invariant.counted ∙ sym (same_counted old c.tell.new.self c.tell.ensures.state c.tell.ensures.pending));
       vacant = given_back g.S.Store.tells g.S.Store.faults (front c.args.pass.now.seat) old.state.history c.args.turn.share.amount c.args.turn.log c.requires.holds longer old.pending (c.audit.ensures.whole ∙ c.self.invariant.counted)
-          c.tell.new.self c.audit.new.self.log (ap (λ (x : BookState). x.history) c.tell.ensures.state) c.tell.ensures.pending c.audit.ensures.log;
+          c.tell.new.self c.keep.result.log (ap (λ (x : BookState). x.history) c.tell.ensures.state) c.tell.ensures.pending (c.keep.ensures ∙ c.audit.ensures.log);
       fresh = subst (λ (x : BookState). IsFreshCache g.J.Naming.tells (log x.history) x.cache) (sym c.tell.ensures.state) c.self.invariant.fresh;
       noted = still_noted old.view c.tell.new.self.view (keeps_learning old.view (pass_without_tokens (pass_view c.args.pass.now.seat)) c.tell.new.self.view c.tell.ensures.book) c.self.invariant.noted;
     }

@@ -7,8 +7,8 @@ use Rattle.cj_board.specs.Views.{pass_without_tokens}
 use Rattle.cj_book.specs.Books.{BookState}
 use Rattle.cj_locked.specs.Locked.{IsVacant}
 use Rattle.cj_locked.proofs.Ending.{same_counted}
-use Rattle.cj_locked.proofs.Holding.{holds_turn}
-use Rattle.cj_locked.proofs.Passes.{noted_joined}
+use Rattle.cj_locked.proofs.Holding.{holds_turn, taken_vacant}
+use Rattle.cj_pass.proofs.Passes.{noted_joined}
 use Rattle.cj_locked.proofs.Noting.{keeps_learning, still_noted}
 use Rattle.cj_locked.proofs.book.LockedBook.hold.Goals as goal
 
@@ -25,8 +25,8 @@ invariant_of-self g c = record {
 
 pub returns-clause-holds : goal.returns-clause-holds
 returns-clause-holds g c =
-    let vacant : IsVacant g.S.Store.tells g.S.Store.faults c.self.inside.book c.in-Some.turn.log = search rules in
-    holds_turn g.S.Store.tells g.S.Store.faults c.self.inside.book c.in-Some.turn.log c.audit.new.self.log c.audit.new.self.share.amount (front c.tell.new.p) vacant
+    let vacant : IsVacant g.S.Store.tells g.S.Store.faults c.self.inside.book c.taken-turn.result.log = taken_vacant g.S.Store.tells g.S.Store.faults c.self.inside.book _ c.taken-turn.result.log c.taken-turn.ensures.log c.self.invariant.vacant in
+    holds_turn g.S.Store.tells g.S.Store.faults c.self.inside.book c.taken-turn.result.log c.audit.new.self.log c.audit.new.self.share.amount (front c.tell.new.p) vacant
     (c.audit.ensures.amount ∙ (c.audit.ensures.whole ∙ c.self.invariant.counted)) c.audit.ensures.log c.tell.ensures.told
 
 pub returns-clause-length : goal.returns-clause-length

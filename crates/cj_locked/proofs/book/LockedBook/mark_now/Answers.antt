@@ -31,7 +31,7 @@ invariant_of-self g c =
     let awaited : c.self.inside.book.pending ≡ Some pending.Marker = mark_pending g.S.Store.tells g.S.Store.faults c.args.self.now.book.state.history c.args.name.now c.args.b c.args.turn.share.amount c.args.turn.log c.args.appended c.requires.holds c.self.inside.book.state before c.self.inside.book.pending whole in
     let total : c.uncount.new.ledger.total + 2 ≡ turn_amount old.history (Some pending.Marker) = c.uncount.ensures.total ∙ (c.audit.ensures.total ∙ (c.self.invariant.counted ∙ ap (turn_amount old.history) awaited)) in
     let now : c.finish_marker.new.self.state.history ≡ (marker_finished old c.args.name.now c.args.b c.args.appended).history = ap (λ (x : BookState). x.history) c.finish_marker.ensures.state in
-    let same : c.count.new.self.log ≡ c.args.turn.log = c.count.ensures.log ∙ (c.uncount.ensures.log ∙ c.audit.ensures.log) in
+    let same : c.keep.result.log ≡ c.args.turn.log = c.keep.ensures ∙ (c.count.ensures.log ∙ (c.uncount.ensures.log ∙ c.audit.ensures.log)) in
     record {
       on = c.finish_marker.ensures.board ∙ c.self.invariant.on;
       laid = ap (λ (x : BookState). x.layout) c.finish_marker.ensures.state ∙ (marked_layout old c.args.name.now c.args.b c.args.appended ∙ c.self.invariant.laid);
@@ -58,7 +58,7 @@ invariant_of-self-in-Err g c =
     let awaited : c.self.inside.book.pending ≡ Some pending.Marker = mark_pending g.S.Store.tells g.S.Store.faults c.args.self.now.book.state.history c.args.name.now c.args.b c.args.turn.share.amount c.args.turn.log c.args.appended c.requires.holds c.self.inside.book.state before c.self.inside.book.pending whole in
     let total : c.uncount.new.ledger.total + 2 ≡ turn_amount old.history (Some pending.Marker) = c.uncount.ensures.total ∙ (c.audit.ensures.total ∙ (c.self.invariant.counted ∙ ap (turn_amount old.history) awaited)) in
     let now : c.finish_marker.new.self.state.history ≡ (marker_finished old c.args.name.now c.args.b c.args.appended).history = ap (λ (x : BookState). x.history) c.finish_marker.ensures.state in
-    let same : c.count-in-Err.new.self.log ≡ c.args.turn.log = c.count-in-Err.ensures.log ∙ (c.uncount.ensures.log ∙ c.audit.ensures.log) in
+    let same : c.keep-in-Err.result.log ≡ c.args.turn.log = c.keep-in-Err.ensures ∙ (c.count-in-Err.ensures.log ∙ (c.uncount.ensures.log ∙ c.audit.ensures.log)) in
     record {
       on = c.finish_marker.ensures.board ∙ c.self.invariant.on;
       laid = ap (λ (x : BookState). x.layout) c.finish_marker.ensures.state ∙ (marked_layout old c.args.name.now c.args.b c.args.appended ∙ c.self.invariant.laid);

@@ -8,7 +8,7 @@ use Rattle.cj_book.specs.declared.error.OwnError.TheVariants.{SessionsFull}
 use Rattle.cj_locked.specs.Locked.{LastIsNoted}
 use Rattle.cj_locked.proofs.Noting.{keeps_learning, locked_still, noted_opened, shows_given, still_noted}
 use Rattle.cj_locked.proofs.Opening.{error_again, error_none, number_left, own_counts}
-use Rattle.cj_locked.proofs.Passes.{noted_joined}
+use Rattle.cj_pass.proofs.Passes.{noted_joined}
 use Rattle.cj_locked.proofs.book.LockedBook.open.Goals as goal
 
 pub returns-in_err-session-clause-full : goal.returns-in_err-session-clause-full

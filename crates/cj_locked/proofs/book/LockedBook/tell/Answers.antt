@@ -4,7 +4,7 @@ use Rattle.cj_board.specs.Views.{pass_without_tokens}
 use Rattle.cj_book.specs.Books.{BookState}
 use Rattle.cj_locked.proofs.Changing.{heard_notes}
 use Rattle.cj_locked.proofs.Noting.{keeps_learning, locked_still, still_noted}
-use Rattle.cj_locked.proofs.Passes.{noted_joined}
+use Rattle.cj_pass.proofs.Passes.{noted_joined}
 use Rattle.cj_locked.proofs.book.LockedBook.tell.Goals as goal
 
 pub invariant_of-self : goal.invariant_of-self
