@@ -1,6 +1,6 @@
-//! Clusters over two backends that have every table, the scenes that are played there, and sessions.
+//! Clusters over two backends that have every table: how they start, and are given up.
 
-ghost use Rattle.std.specs.Prelude.{◌≡◌, ◌≢◌, ◌≤◌, true, [], length, vec_capacity, IfOk, Some};
+ghost use Rattle.std.specs.Prelude.{◌≡◌, ◌≤◌, true, [], length, vec_capacity, IfOk, Some};
 ghost use Rattle.cj_model.specs.declared.limits.TheConstants.{BACKEND_LIMIT};
 ghost use Rattle.cj_model.specs.Cluster.Caching.{empty_cache};
 ghost use Rattle.cj_outside.specs.Memory.{State};
@@ -8,24 +8,21 @@ ghost use Rattle.cj_conf.specs.Confs.{IsUsable};
 ghost use Rattle.cj_board.specs.Seats.{board_id, pass_board};
 ghost use Rattle.cj_control.specs.Starting.{AreOfStarted};
 
-use crate::frames::accepted;
+use crate::steps::{Step, take};
 use cj_backend::Backend;
 use cj_balance::Balancer;
 use cj_book::BookParts;
 use cj_cache::Cache;
-use cj_cluster::SessionEnd;
 use cj_conf::{Conf, read_conf};
 use cj_control::{Control, Naming, Pass};
 use cj_core::{Backends, Parts, Shared, World};
-use cj_model::{Name, NoMemory};
-use cj_outside::{FixedClock, ListDraw, MemSink, MemSource, MemStore};
-use cj_session::serve_session;
+use cj_model::{ListOf, NoMemory};
+use cj_outside::MemStore;
 use std::alloc::Global;
 use std::marker::Brand;
 use std::process::Abort;
 use std::sync::Wait;
 use std::sync::ledger::Blank;
-use std::test::Fail;
 use std::thread::Threads;
 
 /// Two backends in memory that each have every table, read in turn, and one user.
@@ -34,18 +31,6 @@ cache = 64
 backends = [{ name = "b0", kind = "memory" }, { name = "b1", kind = "memory" }]
 users = [{ name = "ann", sha256 = "2bb80d537b1da3e38bd30361aa855686bde0eacd7162fef6a25fe97bf527a25b", logins = ["l0", "l1"] }]
 "#;
-
-/// What happens at a cluster that was just started. It is a type, since the cluster's names are picked once, in
-/// `play`.
-pub trait Scene<B: Backend, R> {
-    fn play<J: Naming + Send + Sync>(
-        &self,
-        rt: &R,
-        alloc: Global,
-        control: Control<J, B, MemStore>,
-        pass: Pass<J>,
-    ) -> Result<(), Fail>;
-}
 
 /// The configuration of a text. In a function with the text itself, the search would compute what it gives.
 fn conf_of(rt: &impl Abort, alloc: Global, text: &str) -> Conf
@@ -105,14 +90,18 @@ fn started<B: Backend + Drop>(
     }
 }
 
-/// Plays the scene at the cluster of these parts.
-fn play_at<J: Naming + Send + Sync, B: Backend + Drop, T: Scene<B, R>, R: Abort>(
+/// Takes the steps at the cluster of these parts, and gives up its backends.
+fn play_at<
+    J: Naming + Send + Sync,
+    B: Backend + Drop + Send + Sync,
+    R: Threads + Wait + Abort + Sync,
+>(
     rt: &R,
     alloc: Global,
     shared: Shared<B, MemStore>,
     blank: Blank,
-    scene: &T,
-) -> Result<(), Fail>
+    steps: &[Step<'_>],
+) -> Result<ListOf<B>, NoMemory>
     requires world { AreOfStarted B.tells true (λ (store : State). store.faults) (board_id shared.board) (pass_board shared.pass) shared.book shared.recovery_log shared.cells.items shared.accounts shared.dumps }
     requires board { board_id shared.board ≡ J.board }
     requires layout { shared.book.state.layout ≡ J.layout }
@@ -120,65 +109,30 @@ fn play_at<J: Naming + Send + Sync, B: Backend + Drop, T: Scene<B, R>, R: Abort>
     requires tells { J.tells ≡ B.tells }
     requires emptied { (length shared.emptied.items ≡ 0) × (BACKEND_LIMIT ≤ vec_capacity shared.emptied) }
 {
-    match Control::<J, B, MemStore>::start(alloc, shared, blank) {
-        Ok((control, pass)) => scene.play::<J>(rt, alloc, control, pass),
-        Err(_) => panic!(rt; "memory"),
+    let Ok((control, mut pass)) = Control::<J, B, MemStore>::start(alloc, shared, blank) else {
+        return Err(NoMemory);
+    };
+    for step in steps {
+        take(rt, alloc, &control, &mut pass, step)?;
+    }
+    match control.into_backends(&mut pass) {
+        Some(backends) => Ok(backends),
+        None => panic!(rt; "a cell is not in its place"),
     }
 }
 
-/// Plays the scene at a new cluster over these backends. The store of its log fails at these calls.
-pub fn play<B: Backend + Drop, T: Scene<B, R>, R: Abort>(
+/// Takes the steps at a new cluster over these backends, and gives them up. The store of its log fails at these calls.
+pub fn play<B: Backend + Drop + Send + Sync, R: Threads + Wait + Abort + Sync>(
     rt: &R,
     alloc: Global,
     one: B,
     other: B,
     log_fails: Vec<u64>,
-    scene: &T,
-) -> Result<(), Fail>
+    steps: &[Step<'_>],
+) -> Result<ListOf<B>, NoMemory>
     requires empty { B.tells ≡ true → (B.told one ≡ Some []) × (B.told other ≡ Some []) }
     requires none { (B.begun one ≡ []) × (B.begun other ≡ []) }
 {
     let shared = started(rt, alloc, one, other, log_fails)?;
-    play_at::<Brand, B, T, R>(rt, alloc, shared, Blank::new(1), scene)
-}
-
-/// The name of a checkpoint.
-pub fn name(rt: &impl Abort) -> Name
-    ensures { result ≢ [] }
-{
-    let Some(name) = Name::of(b"c") else {
-        panic!(rt; "no name")
-    };
-    assert!(rt; !name.as_slice().is_empty());
-    name
-}
-
-/// Serves a session that sends these bytes, until its input ends, and compares what it is sent.
-pub fn check<J: Naming, B: Backend, R: Wait + Abort>(
-    rt: &R,
-    alloc: Global,
-    control: &Control<J, B, MemStore>,
-    pass: &mut Pass<J>,
-    sent: &[u8],
-    replies: &[&[u8]],
-) -> Result<(), NoMemory> {
-    let Ok(mut caller) = control.caller(rt, pass) else {
-        panic!(rt; "no session")
-    };
-    let mut source = MemSource::new(sent.to_vec(alloc)?, Vec::new(alloc));
-    let mut sink = MemSink::new(Vec::new(alloc), Vec::new(alloc));
-    let mut draws = ListDraw::new(Vec::new(alloc));
-    let end = serve_session(
-        rt,
-        alloc,
-        &mut caller,
-        &mut source,
-        &mut sink,
-        &FixedClock::new(0),
-        &mut draws,
-    );
-    control.leave(rt, caller, pass);
-    assert!(rt; end == SessionEnd::Eof);
-    assert!(rt; sink.content() == accepted(alloc, replies)?.as_slice());
-    Ok(())
+    play_at::<Brand, B, R>(rt, alloc, shared, Blank::new(1), steps)
 }

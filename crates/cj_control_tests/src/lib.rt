@@ -1,12 +1,13 @@
 //! Tests of a cluster that threads share: whole sessions, the administrator, calls that fail, and threads.
 //!
-//! The crate has only tests, so that `cj_control` is proved once. Each test has a scene: what happens at a cluster
-//! over two backends that was just started. `clusters` starts the cluster and plays the scene, and checks what a
-//! session is sent. `frames` has what sessions send and are sent, worked out by hand from docs/FORMATS.md.
-//! Some cases have no test. A caller that was left is gone: `leave` takes it, so no call is made by it later. A full
-//! history has 2^62 events, and so does a cluster without session numbers: neither can be made.
-//! To change: a scene goes into the file of its subject. Read `clusters` first. The proof of `play` in it picks the
-//! names of the cluster.
+//! The crate has only tests, so that each crate of functions is proved once. A test lists the steps that are taken at
+//! a cluster over two backends, each with what it is to give, and looks at the backends at the end. `clusters` starts
+//! the cluster and gives it up, and `steps` takes a step. `frames` has what sessions send and are sent, worked out by
+//! hand from docs/FORMATS.md.
+//! Some cases have no test. A caller that was left makes no call, since `leave` takes it. Neither a full history nor a
+//! cluster without session numbers can be made, as both take 2^62 calls.
+//! To change: a new call gets a step in `steps`, and its test goes into the file of its subject. Proofs are in
+//! `proofs/clusters`; that of `play` picks the names of the cluster.
 #![tactic(auto)]
 
 #[cfg(test)]
@@ -19,5 +20,7 @@ mod failures;
 mod frames;
 #[cfg(test)]
 mod sessions;
+#[cfg(test)]
+mod steps;
 #[cfg(test)]
 mod threads;
