@@ -7,14 +7,21 @@ use cj_locked_cell::LockedCell;
 use cj_locks::Locks;
 use cj_outside::Store;
 use cj_pass::Naming;
+use std::sync::Mutex;
+
+/// Empty lists with room for the cells and for the backends, so that giving these up takes no memory.
+#[derive(Drop)]
+pub(crate) struct Emptied<J: Naming, B: Backend> {
+    pub cells: Vec<LockedCell<J, B>>,
+    pub backends: Vec<B>,
+    ghost empty: { (length cells.items ≡ 0) × (length backends.items ≡ 0) },
+    ghost room: { (length J.layout.names ≤ vec_capacity cells) × (length J.layout.names ≤ vec_capacity backends) },
+}
 
 /// A cluster that threads share, at the board, the layout and the turn's ledger that `J` names.
 #[derive(Drop)]
 pub struct Control<J: Naming, B: Backend, S: Store> {
     pub(crate) locks: Locks<J, B, S>,
-    /// An empty list with room for the cells, and one for the backends, so that giving them up takes no memory.
-    pub(crate) unlocked: Vec<LockedCell<J, B>>,
-    pub(crate) emptied: Vec<B>,
-    ghost empty: { (length unlocked.items ≡ 0) × (length emptied.items ≡ 0) },
-    ghost room: { (length locks.placement.names ≤ vec_capacity unlocked) × (length locks.placement.names ≤ vec_capacity emptied) },
+    /// Behind a lock, so that threads may share a cluster of backends that only one of them uses at a time.
+    pub(crate) emptied: Mutex<Emptied<J, B>>,
 }

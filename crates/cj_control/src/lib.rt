@@ -3,16 +3,19 @@
 //! `Control` is what threads share, a `Caller` one session of it, which `serve_session` serves as any desk.
 //! The locks and the way of entries and queries through them are those of `cj_locks`.
 //! Promised: each write and each read of a `Caller` is a turn, from what its pass had seen to what it sees then. Each
-//! call of the administrator has its event in what the pass sees then, or names why not.
+//! call of the administrator has its event in what the pass sees then, or names why not. The log is shown as of that
+//! history, and each backend as enabled exactly if it is so there.
 //! No lock is held while another is taken. No lock that a read needs is held over an append, a print or a query.
 //! To change: `administration.rt`, `audit.rt` and `show.rt` have what the administrator may do, `start.rt` how it
-//! begins and ends. To read: `specs/Callers`, `specs/Administration`. Proofs begin in `proofs/Callers`.
+//! begins and ends. To read: `specs/Callers`, `specs/Administration`, `specs/Showing`. Proofs begin in
+//! `proofs/Callers`.
 #![tactic(auto)]
 
 mod administration;
 mod audit;
 mod caller;
 mod control;
+mod show;
 mod start;
 
 pub use administration::AdminError;

@@ -13,7 +13,7 @@ ghost use Rattle.cj_state.specs.Seats.{AreCellsAt};
 ghost use Rattle.cj_pass.specs.Passes.{HasNotedMore};
 ghost use Rattle.cj_control.specs.Starting.{AreOfStarted, FallTo, HoldFrom, IsCurrentAt};
 
-use crate::control::Control;
+use crate::control::{Control, Emptied};
 use cj_backend::Backend;
 use cj_locked::{LockedBook, Turn};
 use cj_locked_cell::LockedCell;
@@ -38,7 +38,7 @@ struct Room<J: Naming, B: Backend> {
 }
 
 /// Takes the memory of a start with so many cells.
-fn reserve<J: Naming, B: Backend>(
+fn reserve<J: Naming, B: Backend + Drop>(
     alloc: Global,
     placement: &Placement,
     cells: usize,
@@ -180,8 +180,10 @@ impl<J: Naming, B: Backend + Drop, S: Store + Drop> Control<J, B, S> {
         };
         let control = Control {
             locks,
-            unlocked,
-            emptied,
+            emptied: Mutex::new(Emptied {
+                cells: unlocked,
+                backends: emptied,
+            }),
         };
         Ok((control, pass))
     }
@@ -220,11 +222,11 @@ impl<J: Naming, B: Backend + Drop, S: Store + Drop> Control<J, B, S> {
         ensures as_many { IfSome result (λ backends. length backends ≡ length self.locks.placement.names) }
         ensures current { IfSome result (HoldFrom (λ b x. IsCurrentAt B.tells (placement_of J.layout) (front pass.new.seat) b (B.told x)) 0) }
     {
-        let Control {
-            locks,
-            unlocked: empty,
-            emptied,
-        } = self;
+        let Control { locks, emptied } = self;
+        let Emptied {
+            cells: empty,
+            backends,
+        } = emptied.into_inner();
         let Locks {
             board,
             book,
@@ -234,7 +236,7 @@ impl<J: Naming, B: Backend + Drop, S: Store + Drop> Control<J, B, S> {
         let mut book = book.into_inner();
         book.tell(&board, pass);
         let cells = unlocked(&board, pass, cells, empty)?;
-        let backends = backends_of(&board, pass, cells, emptied);
+        let backends = backends_of(&board, pass, cells, backends);
         Some(ListOf::from_vec(backends))
     }
 }

@@ -8,6 +8,7 @@ pub mod Fresh
 pub mod Holding
 pub mod Looking
 pub mod Marking
+pub mod Merging
 pub mod Noting
 pub mod Opening
 pub mod Orphans

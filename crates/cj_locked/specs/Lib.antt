@@ -1,6 +1,7 @@
 pub mod Auditing
 pub mod Changes
 pub mod Failures
+pub mod Listing
 pub mod Locked
 pub mod Looking
 pub mod Marking

@@ -173,7 +173,7 @@ impl<J: Naming, S: Store + Drop> LockedBook<J, S> {
         self.begin_told(board, pass, e)
     }
 
-    /// The same, with a pass that has seen the history.
+    /// Begins an entry by an own pass that has seen the history.
     fn begin_told(
         &mut self,
         board: &NamedBoard<J>,
@@ -241,7 +241,7 @@ impl<J: Naming, S: Store + Drop> LockedBook<J, S> {
         self.finish_told(board, pass, turn, e, prepared, appended)
     }
 
-    /// The same, with a pass that has seen the history.
+    /// Finishes an entry that was begun, by an own pass that has seen the history.
     fn finish_told(
         &mut self,
         board: &NamedBoard<J>,

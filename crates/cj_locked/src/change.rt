@@ -36,7 +36,7 @@ impl<J: Naming, S: Store + Drop> LockedBook<J, S> {
         disabled
     }
 
-    /// The same, of which no pass hears.
+    /// Disables a backend, of which no pass hears. False if it is disabled already.
     fn disable_now(&mut self, board: &NamedBoard<J>, b: u8) -> Result<bool, BookError>
         requires vacant { is_none self.old.log ≡ false }
         requires below { b < length J.layout.names }
@@ -84,7 +84,8 @@ impl<J: Naming, S: Store + Drop> LockedBook<J, S> {
         enabled
     }
 
-    /// The same, with a book that has the note, and of which no pass hears.
+    /// Enables a backend by its note in the book, of which no pass hears. False if it is enabled already, or if there
+    /// are more than `n` entries.
     fn enable_now(&mut self, board: &NamedBoard<J>, b: u8, n: u64) -> Result<bool, BookError>
         requires vacant { is_none self.old.log ≡ false }
         requires below { b < length J.layout.names }

@@ -6,14 +6,16 @@
 //! recovery log, so that an append holds no lock. It can't be dropped, so it comes back to the book.
 //! Promised: a write is a turn of its session (`WritesTurn`), from `begin`, `finish` and `end` by `proofs/Writing`.
 //! To change: entries are in `book.rt` and `orphan.rt`, queries in `look.rt` and `failure.rt`, the rest in `mark.rt`,
-//! `session.rt`, `hold.rt` and `change.rt`. Proofs begin in `proofs/Turns` (what stays with the turn).
-//! To read: `specs/Turns`, `specs/Writing`, `specs/Looking`, `specs/Reading`, `specs/Marking`, `specs/Changes`.
+//! `session.rt`, `hold.rt`, `change.rt` and `listing.rt`. Proofs begin in `proofs/Turns` (what stays with the turn).
+//! To read: `specs/Turns`, `specs/Writing`, `specs/Looking`, `specs/Reading`, `specs/Marking`, `specs/Changes`,
+//! `specs/Listing`.
 #![tactic(auto)]
 
 mod book;
 mod change;
 mod failure;
 mod hold;
+mod listing;
 mod look;
 mod mark;
 mod orphan;
@@ -23,6 +25,7 @@ mod turn;
 pub use book::{Begun, LockedBook, OpenEntry};
 pub use failure::ReadFailure;
 pub use hold::HeldTurn;
+pub use listing::ShownItem;
 pub use look::Look;
 pub use mark::BegunMarker;
 pub use orphan::BegunAbort;

@@ -71,7 +71,7 @@ impl<J: Naming, S: Store + Drop> LockedBook<J, S> {
         self.look_now(tx, select, least, tried, first)
     }
 
-    /// The same, of which no pass hears.
+    /// Looks where a query may be answered, of which no pass hears.
     fn look_now(
         &mut self,
         tx: u64,

@@ -51,7 +51,7 @@ impl<J: Naming, S: Store + Drop> LockedBook<J, S> {
         Ok(Some(begun))
     }
 
-    /// The same, of a name that no marker has.
+    /// Begins a marker of a name that no marker has.
     fn begin_fresh(&mut self, name: &Name, b: Option<u8>) -> Result<BegunMarker<J, S>, BookError>
         requires vacant { is_none self.old.log ≡ false }
         requires fresh { has_marker self.old.book.state.history name.now ≡ false }
@@ -100,7 +100,7 @@ impl<J: Naming, S: Store + Drop> LockedBook<J, S> {
         marked
     }
 
-    /// The same, of which no pass hears.
+    /// Finishes a marker that was begun, of which no pass hears.
     fn mark_now(
         &mut self,
         board: &NamedBoard<J>,

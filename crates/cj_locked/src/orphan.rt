@@ -142,7 +142,7 @@ impl<J: Naming, S: Store + Drop> LockedBook<J, S> {
         finished
     }
 
-    /// The same, of which no pass hears.
+    /// Finishes the entry that ends an orphan, of which no pass hears.
     fn finish_orphan(
         &mut self,
         board: &NamedBoard<J>,

@@ -26,7 +26,7 @@ report_of (Err Failed) = did.Failed
 report_of (Err Starved) = did.Starved
 
 -- a cell carried out entry n, or skipped it, and reports so
-pub record CarriesOut (before : CellState) (n : ℕ) (e : Entry) (login : List ℕ) (d : Did) (after : CellState) : Type 0 where
+pub record CarriesOutEntry (before : CellState) (n : ℕ) (e : Entry) (login : List ℕ) (d : Did) (after : CellState) : Type 0 where
   pub caught : Result Caught CellError
   pub catches_up : CatchesUp before n e login caught after
   pub is : d ≡ report_of caught

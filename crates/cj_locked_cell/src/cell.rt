@@ -14,7 +14,7 @@ ghost use Rattle.cj_replica.specs.Cells.{GivesContents, ReadsAnswer};
 ghost use Rattle.cj_locked_cell.specs.Asking.{GivesPart};
 ghost use Rattle.cj_pass.specs.Passes.{HasNotedMore};
 ghost use Rattle.cj_locked_cell.specs.Answering.{IsReadAnswer};
-ghost use Rattle.cj_locked_cell.specs.Taking.{report_of, CarriesOut, ReportsEntry};
+ghost use Rattle.cj_locked_cell.specs.Taking.{report_of, CarriesOutEntry, ReportsEntry};
 
 use cj_backend::Backend;
 use cj_cluster::Did;
@@ -76,7 +76,7 @@ impl<J: Naming, B: Backend> LockedCell<J, B> {
         ensures backend { result.0 < BACKEND_LIMIT }
         ensures reports { ReportsEntry B.tells (placement_of J.layout) n e.now (pass_view pass.new.seat) result.0 result.1 }
         ensures number { result.0 ≡ self.old.cell.state.b }
-        ensures carried { self.old.cell.state.position ≡ Some (n - 1) → CarriesOut self.old.cell.state n e.now login.now result.1 self.new.cell.state }
+        ensures carried { self.old.cell.state.position ≡ Some (n - 1) → CarriesOutEntry self.old.cell.state n e.now login.now result.1 self.new.cell.state }
         ensures elsewhere { self.old.cell.state.position ≢ Some (n - 1) → (result.1 ≡ Did.Starved) × (self.new.cell.state ≡ self.old.cell.state) }
     {
         let b = self.cell.number();
@@ -93,7 +93,7 @@ impl<J: Naming, B: Backend> LockedCell<J, B> {
         }
     }
 
-    /// The same for a cell that has been told of the entry, and stands before it.
+    /// Has the backend carry out or skip entry `n`, of which the cell was told, and before which it stands.
     fn take_next(
         &mut self,
         board: &NamedBoard<J>,
@@ -108,7 +108,7 @@ impl<J: Naming, B: Backend> LockedCell<J, B> {
         ensures more { HasNotedMore (pass_view pass.old.seat) (pass_view pass.new.seat) }
         ensures legal { IsLegal (front pass.new.seat) }
         ensures reports { ReportsEntry B.tells (placement_of J.layout) n e.now (pass_view pass.new.seat) self.old.cell.state.b result }
-        ensures carried { CarriesOut self.old.cell.state n e.now login.now result self.new.cell.state }
+        ensures carried { CarriesOutEntry self.old.cell.state n e.now login.now result self.new.cell.state }
     {
         let caught = self.cell.catch_up(&board.board, n, e, login);
         self.cell.report(&board.board, &mut pass.seat);
@@ -116,7 +116,7 @@ impl<J: Naming, B: Backend> LockedCell<J, B> {
     }
 
     /// Answers a query of transaction `tx`, 0 for none, at a position not below `least`, if it is the cell of backend
-    /// `b`. The cell of another answers `Out`, in a branch that never runs. The pass has heard of it then.
+    /// `b`. The cell of another backend answers `Out`. The pass has heard of the answer then.
     pub fn read(
         &mut self,
         board: &NamedBoard<J>,

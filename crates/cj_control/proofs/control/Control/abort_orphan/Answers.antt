@@ -1,6 +1,7 @@
-use Rattle.cj_board.specs.Seats.{front}
+use Rattle.cj_board.specs.Seats.{front, pass_view}
 use Rattle.cj_place.specs.Layouts.{placement_of}
 use Rattle.cj_locked.specs.Orphans.{BeginsAbortSince}
+use Rattle.cj_pass.proofs.Passes.{seen_then}
 use Rattle.cj_control.proofs.Administering.{abort_not_begun, begins_again, ends_earlier}
 use Rattle.cj_control.proofs.control.Control.abort_orphan.Goals as goal
 
@@ -24,3 +25,7 @@ returns-in-Ok-Some-clause-ends g c =
 pub returns-in-Err-clause-ends : goal.returns-in-Err-clause-ends
 returns-in-Err-clause-ends g c =
     abort_not_begun (front c.args.pass.now.seat) (front c.begin_abort-begun.new.pass.seat) c.args.tx c.in-Err.error c.refusal_of.result c.begin_abort-begun.ensures.more.seen.front c.in-Err.ensures.err c.refusal_of.ensures
+
+pub returns-in-Ok-Some-clause-seen : goal.returns-in-Ok-Some-clause-seen
+returns-in-Ok-Some-clause-seen g c =
+    seen_then (pass_view c.args.pass.now.seat) (pass_view c.begin_abort-begun.new.pass.seat) (pass_view c.carry_out_abort.new.pass.seat) c.begin_abort-begun.ensures.more.seen c.carry_out_abort.ensures.seen

@@ -2,7 +2,7 @@ use Rattle.std.proofs.Common.{None}
 use Rattle.cj_board.specs.Seats.{front, pass_view}
 use Rattle.cj_locked.proofs.Marking.{marked_now}
 use Rattle.cj_pass.proofs.Passes.{noted_then}
-use Rattle.cj_control.proofs.Administering.{marked_checks, not_begun}
+use Rattle.cj_control.proofs.Administering.{marked_checks, not_begun, not_marked}
 use Rattle.cj_control.proofs.control.Control.checkpoint.Goals as goal
 
 pub finish_checkpoint-marked-requires : goal.finish_checkpoint-marked-requires
@@ -25,6 +25,11 @@ returns-in-Ok-clause-more g c =
 pub returns-in-Err-marked-clause-more : goal.returns-in-Err-marked-clause-more
 returns-in-Err-marked-clause-more g c =
     noted_then (pass_view c.args.pass.now.seat) (pass_view c.begin_marker-begun.new.pass.seat) (pass_view c.finish_checkpoint-marked.new.pass.seat) c.begin_marker-begun.ensures.more c.finish_checkpoint-marked.ensures.more
+
+pub returns-in-Err-marked-clause-checks : goal.returns-in-Err-marked-clause-checks
+returns-in-Err-marked-clause-checks g c =
+    not_marked (front c.args.pass.now.seat) (front c.begin_marker-begun.new.pass.seat) (front c.finish_checkpoint-marked.new.pass.seat) c.args.name.now c.in-Err-marked.error c.refusal_of.result c.begin_marker-begun.ensures.more.seen.front
+    c.in-Err-marked.ensures.marks c.refusal_of.ensures
 
 pub returns-in-Err-clause-checks : goal.returns-in-Err-clause-checks
 returns-in-Err-clause-checks g c =
