@@ -1,12 +1,14 @@
 -- What the administrator is shown of the backends.
 use Rattle.std.specs.Prelude.{◌≡◌, ℕ, ◌<◌, Bool, true, false, List, [], ◌∷◌, ◌++◌, codes, length, Contains, IfSome, slice_index_or}
+use mathlib.Core.List.{IsPrefix}
 use Rattle.std.specs.declared.option.Option.{Option}
 use Rattle.std.specs.declared.option.Option.TheVariants.{None, Some}
 use Rattle.std.specs.Fmt.{decimal}
 use Rattle.std.specs.List.{flat_map, range_with_len}
 use Rattle.cj_backend.specs.declared.backend.Counts.{Counts}
 use Rattle.cj_board.specs.declared.view.SeatView.{SeatView}
-use Rattle.cj_cluster.specs.History.Histories.{is_enabled}
+use Rattle.cj_cluster.specs.declared.event.Event.{Event}
+use Rattle.cj_cluster.specs.History.Histories.{is_enabled, is_free, log}
 use Rattle.cj_control.specs.declared.show.Looked.{Looked}
 
 -- the word for how a backend stands, by whether it is enabled and by its position
@@ -43,9 +45,16 @@ backends_text names enabled looks = flat_map (λ b. backend_line (slice_index_or
 abbrev pub AreNoted : SeatView → List Looked → Type 0
 AreNoted v looks = (b : ℕ) → b < length looks → IfSome (slice_index_or looks b no_look).position (λ n. Contains v.position_notes (b, n))
 
+-- each that was enabled at moment m of what the pass had seen, while no entry was open, is at the end of the log, if no
+-- entry came since
+abbrev pub StandAtEnd : List Event → List Event → List Looked → Type 0
+StandAtEnd old new looks = (m : List Event) → IsPrefix m old → is_free m ≡ true → length (log new) ≡ length (log m)
+    → (b : ℕ) → b < length looks → is_enabled m b ≡ true → (slice_index_or looks b no_look).position ≡ Some (length (log m))
+
 -- the lines are by a look at each backend, and by who is enabled in what the pass has seen
-pub record ShowsBackends (names : List (List ℕ)) (v : SeatView) (text : List ℕ) : Type 0 where
+pub record ShowsBackends (names : List (List ℕ)) (old new : SeatView) (text : List ℕ) : Type 0 where
   pub looks : List Looked
   pub each : length looks ≡ length names
-  pub noted : AreNoted v looks
-  pub is : text ≡ backends_text names (is_enabled v.front) looks
+  pub noted : AreNoted new looks
+  pub stand : StandAtEnd old.front new.front looks
+  pub is : text ≡ backends_text names (is_enabled new.front) looks

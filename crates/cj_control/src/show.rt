@@ -1,19 +1,22 @@
 //! What the administrator is shown.
 
-ghost use Rattle.std.specs.Prelude.{◌≡◌, ◌++◌, ℕ, length, map, option_copied, Contains, IfOk, IfSome, OnOk};
+ghost use Rattle.std.specs.Prelude.{◌≡◌, ◌++◌, ℕ, List, true, length, map, option_copied, Some, Contains, IfOk, IfSome, OnOk};
 ghost use Rattle.std.specs.Fmt.{decimal};
+ghost use mathlib.Core.List.{IsPrefix};
 ghost use Rattle.cj_model.specs.Cluster.Masks.{in_mask};
 ghost use Rattle.cj_model.specs.Sql.Names.{IsText};
 ghost use Rattle.cj_model.specs.Sql.PlainRequests as plain;
 ghost use Rattle.cj_print.specs.Ascii.{IsAsciiText};
 ghost use Rattle.cj_audit.specs.Audits.{StaysText};
+ghost use Rattle.cj_cluster.specs.declared.event.Event.{Event};
+ghost use Rattle.cj_cluster.specs.History.Histories.{is_enabled, is_free, log};
 ghost use Rattle.cj_cluster.specs.History.Legality.{IsLegal};
 ghost use Rattle.cj_board.specs.Seats.{front, pass_view};
 ghost use Rattle.cj_listing.specs.Listing.{listing};
 ghost use Rattle.cj_pass.specs.Passes.{HasNotedMore};
 ghost use Rattle.cj_locked.specs.Listing.{item_of, items_between};
 ghost use Rattle.cj_control.specs.Showing as showing;
-ghost use Rattle.cj_control.specs.Showing.{AreNoted, ShowsBackends, backend_line, backends_text, counts_text, login_text, position_text};
+ghost use Rattle.cj_control.specs.Showing.{AreNoted, ShowsBackends, StandAtEnd, backend_line, backends_text, counts_text, login_text, position_text};
 
 use crate::control::Control;
 use cj_audit::into_text;
@@ -195,6 +198,7 @@ impl<J: Naming, B: Backend, S: Store + Drop> Control<J, B, S> {
     /// A cell of another backend runs out of memory, in a branch that never runs.
     fn look_at<R: Wait>(&self, rt: &R, pass: &mut Pass<J>, b: u8) -> Result<Looked, NoMemory>
         ensures noted { IfOk result (λ x. IfSome x.position (λ n. Contains (pass_view pass.new.seat).position_notes (b, n))) }
+        ensures stands { IfOk result (λ x. (m : List Event) → IsPrefix m (front pass.old.seat) → is_free m ≡ true → length (log (front pass.new.seat)) ≡ length (log m) → is_enabled m b ≡ true → x.position ≡ Some (length (log m))) }
         ensures more { HasNotedMore (pass_view pass.old.seat) (pass_view pass.new.seat) }
     {
         let Some(cell) = self.locks.cells.get(b as usize) else {
@@ -218,6 +222,7 @@ impl<J: Naming, B: Backend, S: Store + Drop> Control<J, B, S> {
     fn look_at_each<R: Wait>(&self, rt: &R, pass: &mut Pass<J>) -> Result<Vec<Looked>, NoMemory>
         ensures each { IfOk result (λ looks. length looks.items ≡ length J.layout.names) }
         ensures noted { IfOk result (λ looks. AreNoted (pass_view pass.new.seat) looks.items) }
+        ensures stand { IfOk result (λ looks. StandAtEnd (front pass.old.seat) (front pass.new.seat) looks.items) }
         ensures more { HasNotedMore (pass_view pass.old.seat) (pass_view pass.new.seat) }
     {
         let mut looks = Vec::new(self.locks.alloc);
@@ -243,8 +248,11 @@ impl<J: Naming, B: Backend, S: Store + Drop> Control<J, B, S> {
 
     /// Returns a line for each backend: whether it is enabled in what the pass has seen then, its position by a look
     /// at it, its counts, and the login of its last call. No lock is held while the lines are made.
+    ///
+    /// The looks are one after another, and others go on meanwhile. So an enabled backend may be shown with a dash for
+    /// its position: it failed in an entry that is open, or it was enabled after the look.
     pub fn show_backends<R: Wait>(&self, rt: &R, pass: &mut Pass<J>) -> Result<Text, NoMemory>
-        ensures shows { IfOk result (ShowsBackends J.layout.names (pass_view pass.new.seat)) }
+        ensures shows { IfOk result (ShowsBackends J.layout.names (pass_view pass.old.seat) (pass_view pass.new.seat)) }
         ensures more { HasNotedMore (pass_view pass.old.seat) (pass_view pass.new.seat) }
         ensures legal { IsLegal (front pass.new.seat) }
     {

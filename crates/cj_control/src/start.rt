@@ -156,32 +156,26 @@ impl<J: Naming, B: Backend + Drop, S: Store + Drop> Control<J, B, S> {
         let Ok(room) = reserve(alloc, book.placement(), cells.len()) else {
             return Err((NoMemory, recovery_log.into_log()));
         };
-        let Room {
-            placement,
-            locks,
-            unlocked,
-        } = room;
         let (ledger, share) = blank.open();
         let board = NamedBoard::new(board);
         let mut pass = Pass::new(pass);
         let mut book = LockedBook::new(book, ledger, Turn::new(share, recovery_log));
         book.tell(&board, &mut pass);
-        let keeps = !book.keeps_none();
         let locks = Locks {
             alloc,
             board,
+            keeps: !book.keeps_none(),
             book: Mutex::new(book),
             turn_back: Condvar::new(),
             settled: Condvar::new(),
-            cells: locked(cells, locks),
-            placement,
+            cells: locked(cells, room.locks),
+            placement: room.placement,
             accounts,
-            keeps,
         };
         let control = Control {
             locks,
             emptied: Mutex::new(Emptied {
-                cells: unlocked,
+                cells: room.unlocked,
                 backends: emptied,
             }),
         };

@@ -79,7 +79,8 @@ impl<J: Naming, S: Store + Drop> LockedBook<J, S> {
     /// the markers that have at least `first` and fewer than `last` entries before them. A `last` above the number of
     /// entries shows the markers behind the last entry too. A `first` above `last` shows nothing.
     ///
-    /// The copies are made under one hold of the book, so a long part keeps others waiting.
+    /// The copies are made under one hold of the book, so a long part keeps others waiting. `NoMemory` is the only
+    /// error, and the pass has seen the history then too.
     pub fn shown(
         &mut self,
         alloc: Global,

@@ -1,11 +1,12 @@
 //! A cell behind its lock.
 
-ghost use Rattle.std.specs.Prelude.{◌≡◌, ◌≢◌, ◌-◌, ◌<◌, ℕ, true, length, Some, Err, slice_get, Contains, IfSome};
+ghost use Rattle.std.specs.Prelude.{◌≡◌, ◌≢◌, ◌-◌, ◌<◌, ℕ, List, true, length, Some, Err, slice_get, Contains, IfSome};
 ghost use mathlib.Core.List.{IsPrefix};
 ghost use Rattle.cj_model.specs.declared.request.Request.TheVariants as request;
 ghost use Rattle.cj_model.specs.Sql.WrittenRequests.{IsWritten};
 ghost use Rattle.cj_model.specs.declared.limits.TheConstants.{BACKEND_LIMIT};
 ghost use Rattle.cj_model.specs.Cluster.Placements.{part};
+ghost use Rattle.cj_cluster.specs.declared.event.Event.{Event};
 ghost use Rattle.cj_cluster.specs.History.Histories.{database_after, is_enabled, is_free, log};
 ghost use Rattle.cj_cluster.specs.History.Legality.{IsLegal};
 ghost use Rattle.cj_board.specs.Seats.{front, pass_view};
@@ -193,15 +194,17 @@ impl<J: Naming, B: Backend> LockedCell<J, B> {
     }
 
     /// Looks where the backend stands: its number, and its position or none if it is out. The pass has heard of it
-    /// then.
+    /// then. A backend that was enabled while no entry was open stands at the end of the log, if no entry came since.
     pub fn look(&mut self, board: &NamedBoard<J>, pass: &mut Pass<J>) -> (u8, Option<u64>)
         ensures more { HasNotedMore (pass_view pass.old.seat) (pass_view pass.new.seat) }
         ensures legal { IsLegal (front pass.new.seat) }
         ensures is { (result.0 ≡ self.old.cell.state.b) × (result.1 ≡ self.old.cell.state.position) }
         ensures noted { IfSome result.1 (λ n. Contains (pass_view pass.new.seat).position_notes (result.0, n)) }
         ensures seen { IsPrefix self.new.cell.view.front (front pass.new.seat) }
+        ensures stands { (m : List Event) → IsPrefix m (front pass.old.seat) → is_free m ≡ true → is_enabled m result.0 ≡ true → length (log (front pass.new.seat)) ≡ length (log m) → result.1 ≡ Some (length (log m)) }
         ensures state { self.new.cell.state ≡ self.old.cell.state }
     {
+        self.cell.brief(&board.board, &mut pass.seat);
         let b = self.cell.number();
         let position = self.cell.position();
         self.cell.report(&board.board, &mut pass.seat);

@@ -40,7 +40,7 @@ use cj_outside::Store;
 use cj_pass::{Naming, Pass};
 use cj_replica::CellReadError;
 use std::alloc::Global;
-use std::sync::{Arc, Wait};
+use std::sync::Wait;
 
 /// A query of a session.
 #[derive(Drop)]

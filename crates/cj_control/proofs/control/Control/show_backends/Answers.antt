@@ -5,7 +5,7 @@ use Rattle.cj_locked.proofs.Beginning.{ok_weaker}
 use Rattle.cj_pass.proofs.Passes.{noted_then}
 use Rattle.cj_control.specs.Showing.{backends_text, ShowsBackends}
 use Rattle.cj_control.specs.declared.show.Looked.{Looked}
-use Rattle.cj_control.proofs.Showing.{noted_on, shown}
+use Rattle.cj_control.proofs.Showing.{noted_on, shown, stand_on}
 use Rattle.cj_control.proofs.control.Control.show_backends.Goals as goal
 
 pub returns-in-Ok-clause-shows : goal.returns-in-Ok-clause-shows
@@ -13,10 +13,12 @@ returns-in-Ok-clause-shows g c =
     let names = g.J.Naming.layout.names in
     let mask = in_mask c.enabled-enabled.result in
     let looks = c.in-Ok.looks.items in
+    let u = pass_view c.args.pass.now.seat in
     let v = pass_view c.look_at_each-looks.new.pass.seat in
     let w = pass_view c.enabled-enabled.new.pass.seat in
-    ok_weaker (λ text. text ≡ backends_text names mask looks) (ShowsBackends names w)
-    (λ text is. shown names w mask looks text c.in-Ok.ensures.each (noted_on v w looks c.enabled-enabled.ensures.more c.in-Ok.ensures.noted) c.enabled-enabled.ensures.enabled is) c.lines_of.result
+    ok_weaker (λ text. text ≡ backends_text names mask looks) (ShowsBackends names u w)
+    (λ text is. shown names u w mask looks text c.in-Ok.ensures.each (noted_on v w looks c.enabled-enabled.ensures.more c.in-Ok.ensures.noted)
+    (stand_on u.front v.front w.front looks c.look_at_each-looks.ensures.more.seen.front c.enabled-enabled.ensures.more.seen.front c.in-Ok.ensures.stand) c.enabled-enabled.ensures.enabled is) c.lines_of.result
     (subst (λ (xs : List Looked). IfOk c.lines_of.result (λ text. text ≡ backends_text names mask xs)) c.deref.ensures.value c.lines_of.ensures)
 
 pub returns-in-Ok-clause-more : goal.returns-in-Ok-clause-more
