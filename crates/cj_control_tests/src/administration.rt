@@ -12,6 +12,10 @@ use std::test::Fail;
 fn what_was_done_already_is_refused(rt: HostRuntime) -> Result<(), Fail> {
     let alloc = rt.alloc();
     let (one, other) = (MemBackend::new(alloc), MemBackend::new(alloc));
+    let backends = b"b0 enabled position=2 asks=0 begun=0 faults=0 login=-\n\
+b1 disabled position=0 asks=0 begun=0 faults=0 login=-\n";
+    let log = b"marker c after 0 backend=-\n1 session=1 tx=0 user=ann BEGIN\n\
+2 session=0 tx=1 user=ann ROLLBACK\n";
     let steps = [
         Step::Disable(1, Ok(())),
         Step::Disable(1, Err(AdminError::NotEnabled)),
@@ -21,6 +25,8 @@ fn what_was_done_already_is_refused(rt: HostRuntime) -> Result<(), Fail> {
         Step::LeaveOpen(1),
         Step::AbortOrphan(1, Ok(2)),
         Step::AbortOrphan(1, Err(AdminError::NotOrphan(1))),
+        Step::ShowBackends(backends),
+        Step::ShowLog(0, 2, log),
     ];
     let _backends = play(&rt, alloc, one, other, Vec::new(alloc), &steps)?;
     Ok(())

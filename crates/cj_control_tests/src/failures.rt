@@ -65,8 +65,11 @@ fn backends_that_fail_in_a_write_are_out(rt: HostRuntime) -> Result<(), Fail> {
             NO_BACKEND,
         ],
     };
+    let shown = b"b0 out position=- asks=0 begun=0 faults=3 login=l0\n\
+b1 out position=- asks=0 begun=0 faults=3 login=l1\n";
     let steps = [
         Step::Session(talk),
+        Step::ShowBackends(shown),
         Step::Disable(0, Err(AdminError::NotEnabled)),
         Step::Checkpoint(Ok(3)),
         Step::Audit(Ok(b"")),

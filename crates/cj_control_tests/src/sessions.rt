@@ -63,7 +63,13 @@ fn both_backends_have_the_rows_of_a_session(rt: HostRuntime) -> Result<(), Fail>
         ],
         replies: &[DONE_0, DONE_2, TWO_ROWS],
     };
-    let steps = [Step::Session(talk), Step::Audit(Ok(TWO_ROWS_TWICE))];
+    let shown = b"b0 enabled position=2 asks=1 begun=0 faults=0 login=l0\n\
+b1 enabled position=2 asks=0 begun=0 faults=0 login=l1\n";
+    let steps = [
+        Step::Session(talk),
+        Step::Audit(Ok(TWO_ROWS_TWICE)),
+        Step::ShowBackends(shown),
+    ];
     let backends = play(&rt, alloc, one, other, Vec::new(alloc), &steps)?;
     let [one, other] = backends.as_slice() else {
         panic!(rt; "other than two backends")
@@ -88,7 +94,7 @@ fn an_answer_is_kept_until_its_table_changes(rt: HostRuntime) -> Result<(), Fail
         ],
         replies: &[DONE_0, NO_V, NO_V, NO_V, DONE_1, V_A, COUNTS_2_2],
     };
-    let steps = [Step::Session(talk)];
+    let steps = [Step::Session(talk), Step::ShowCache(2, 2)];
     let backends = play(&rt, alloc, one, other, Vec::new(alloc), &steps)?;
     let [one, other] = backends.as_slice() else {
         panic!(rt; "other than two backends")

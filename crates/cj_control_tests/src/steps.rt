@@ -7,7 +7,7 @@ ghost use Rattle.cj_desk.specs.DeskStates.{desk_tx};
 use crate::frames::Talk;
 use cj_backend::Backend;
 use cj_cluster::SessionEnd;
-use cj_control::{AdminError, Control, Naming, Pass};
+use cj_control::{AdminError, Caller, Control, Naming, Pass};
 use cj_desk::Desk;
 use cj_model::{Act, Name, NoMemory, Request, Text, USER_LIMIT};
 use cj_outside::{FixedClock, ListDraw, MemSink, MemSource, MemStore};
@@ -38,6 +38,12 @@ pub enum Step<'a> {
     AbortOrphan(u64, Result<u64, AdminError>),
     /// All that the enabled backends hold is asked for.
     Audit(Result<&'a [u8], AdminError>),
+    /// The backends are shown.
+    ShowBackends(&'a [u8]),
+    /// The log is shown from the first number to the last.
+    ShowLog(u64, u64, &'a [u8]),
+    /// The hits and the misses of the result cache are shown.
+    ShowCache(u64, u64),
 }
 
 /// Serves a session, and compares what it is sent.
@@ -93,15 +99,15 @@ fn serve_both<
     second
 }
 
-/// Opens so many sessions, and leaves all of them.
-fn open_many<J: Naming, B: Backend, R: Wait + Abort>(
+/// Opens so many sessions, whose numbers go up from the first.
+fn open_many<'a, J: Naming, B: Backend, R: Wait + Abort>(
     rt: &R,
     alloc: Global,
-    control: &Control<J, B, MemStore>,
+    control: &'a Control<J, B, MemStore>,
     pass: &mut Pass<J>,
     count: u64,
     first: u64,
-) -> Result<(), NoMemory> {
+) -> Result<Vec<Caller<'a, J, B, MemStore>>, NoMemory> {
     let mut callers = Vec::new(alloc);
     for k in 0..count {
         let Ok(caller) = control.caller(rt, pass) else {
@@ -110,10 +116,19 @@ fn open_many<J: Naming, B: Backend, R: Wait + Abort>(
         assert!(rt; Desk::<R>::session(&caller) == first.wrapping_add(k));
         callers.push(caller)?;
     }
-    while let Some(caller) = callers.pop() {
+    Ok(callers)
+}
+
+/// Leaves all these sessions.
+fn leave_all<J: Naming, B: Backend, R: Wait>(
+    rt: &R,
+    control: &Control<J, B, MemStore>,
+    pass: &mut Pass<J>,
+    callers: Vec<Caller<'_, J, B, MemStore>>,
+) {
+    for caller in callers {
         control.leave(rt, caller, pass);
     }
-    Ok(())
 }
 
 /// Has a desk begin a transaction, and returns its number.
@@ -188,7 +203,10 @@ pub fn take<
     match step {
         Step::Session(talk) => serve(rt, alloc, control, pass, talk)?,
         Step::Both(one, two) => serve_both(rt, alloc, control, pass, one, two)?,
-        Step::Many(count, first) => open_many(rt, alloc, control, pass, *count, *first)?,
+        Step::Many(count, first) => {
+            let callers = open_many(rt, alloc, control, pass, *count, *first)?;
+            leave_all(rt, control, pass, callers);
+        }
         Step::LeaveOpen(tx) => leave_open(rt, alloc, control, pass, *tx)?,
         Step::Disable(b, wanted) => {
             assert!(rt; *b < control.placement().count());
@@ -201,6 +219,15 @@ pub fn take<
             assert!(rt; control.abort_orphan(rt, pass, *tx) == *wanted);
         }
         Step::Audit(wanted) => audit(rt, control, pass, wanted),
+        Step::ShowBackends(lines) => {
+            assert!(rt; control.show_backends(rt, pass)?.as_slice() == *lines);
+        }
+        Step::ShowLog(first, last, lines) => {
+            assert!(rt; control.show_log(rt, pass, *first, *last)?.as_slice() == *lines);
+        }
+        Step::ShowCache(hits, misses) => {
+            assert!(rt; control.show_cache(rt) == (*hits, *misses));
+        }
     }
     Ok(())
 }
