@@ -23,6 +23,7 @@ use std::marker::Brand;
 use std::process::Abort;
 use std::sync::Wait;
 use std::sync::ledger::Blank;
+use std::thread::Threads;
 
 /// Two backends in memory that each have every table, read in turn, and one user.
 const CONF: &str = r#"level = "raidb1"
@@ -90,7 +91,7 @@ fn started<B: Backend + Drop>(
 }
 
 /// Takes the steps at the cluster of these parts, and gives up its backends.
-fn play_at<J: Naming, B: Backend + Drop, R: Wait + Abort>(
+fn play_at<J: Naming + Send + Sync, B: Backend + Drop + Send, R: Threads + Wait + Abort + Sync>(
     rt: &R,
     alloc: Global,
     shared: Shared<B, MemStore>,
@@ -117,7 +118,7 @@ fn play_at<J: Naming, B: Backend + Drop, R: Wait + Abort>(
 }
 
 /// Takes the steps at a new cluster over these backends, and gives them up. The store of its log fails at these calls.
-pub fn play<B: Backend + Drop, R: Wait + Abort>(
+pub fn play<B: Backend + Drop + Send, R: Threads + Wait + Abort + Sync>(
     rt: &R,
     alloc: Global,
     one: B,

@@ -1,4 +1,4 @@
-//! Tests of a cluster that threads share: whole sessions, the administrator, and calls that fail. No test has threads.
+//! Tests of a cluster that threads share: whole sessions, the administrator, calls that fail, and threads.
 //!
 //! The crate has only tests, so that each crate of functions is proved once. A test lists the steps that are taken at
 //! a cluster over two backends, each with what it is to give, and looks at the backends at the end. `clusters` starts
@@ -19,8 +19,8 @@ mod failures;
 #[cfg(test)]
 mod frames;
 #[cfg(test)]
-mod reading;
-#[cfg(test)]
 mod sessions;
 #[cfg(test)]
 mod steps;
+#[cfg(test)]
+mod threads;

@@ -16,12 +16,16 @@ use cj_sql::read;
 use std::alloc::Global;
 use std::process::Abort;
 use std::sync::Wait;
+use std::thread;
+use std::thread::Threads;
 
 /// A step of a test.
 #[derive(Drop)]
 pub enum Step<'a> {
     /// A session is served until its input ends.
     Session(Talk<'a>),
+    /// Two sessions are served, in a thread each.
+    Both(Talk<'a>, Talk<'a>),
     /// So many sessions are open at once, the first of which has this number. All are left.
     Many(u64, u64),
     /// A session begins the transaction of this number, which is no orphan before the session is left.
@@ -69,6 +73,26 @@ fn serve<J: Naming, B: Backend, R: Wait + Abort>(
     assert!(rt; end == SessionEnd::Eof);
     assert!(rt; sink.content() == talk.wanted(alloc)?.as_slice());
     Ok(())
+}
+
+/// Serves two sessions, in a thread each.
+fn serve_both<J: Naming + Send + Sync, B: Backend + Drop + Send, R: Threads + Wait + Abort + Sync>(
+    rt: &R,
+    alloc: Global,
+    control: &Control<J, B, MemStore>,
+    pass: &mut Pass<J>,
+    one: &Talk<'_>,
+    two: &Talk<'_>,
+) -> Result<(), NoMemory> {
+    let mut other = control.split(pass);
+    let (first, second) = thread::join(
+        rt,
+        || serve(rt, alloc, control, &mut other, one),
+        || serve(rt, alloc, control, pass, two),
+    );
+    control.rejoin(pass, other);
+    first?;
+    second
 }
 
 /// Opens so many sessions, whose numbers go up from the first.
@@ -161,7 +185,7 @@ fn audit<J: Naming, B: Backend, R: Wait + Abort>(
 }
 
 /// Takes a step, and compares what it gives.
-pub fn take<J: Naming, B: Backend, R: Wait + Abort>(
+pub fn take<J: Naming + Send + Sync, B: Backend + Drop + Send, R: Threads + Wait + Abort + Sync>(
     rt: &R,
     alloc: Global,
     control: &Control<J, B, MemStore>,
@@ -170,6 +194,7 @@ pub fn take<J: Naming, B: Backend, R: Wait + Abort>(
 ) -> Result<(), NoMemory> {
     match step {
         Step::Session(talk) => serve(rt, alloc, control, pass, talk)?,
+        Step::Both(one, two) => serve_both(rt, alloc, control, pass, one, two)?,
         Step::Many(count, first) => {
             let callers = open_many(rt, alloc, control, pass, *count, *first)?;
             leave_all(rt, control, pass, callers);
