@@ -1,19 +1,233 @@
 -- What of a cluster may cross to another thread.
 use denote.RattleType.{RattleType}
-use denote.Param.Send.{IsSend, IsSync, sendable}
-use Rattle.std.proofs.Crossing.{crosses}
-use Rattle.cj_model.proofs.text.Text.TheSendSync as a1
-use Rattle.cj_model.proofs.term.Term.TheSendSync as a2
--- use Rattle.cj_model.proofs.condition.CondNode.TheSendSync as a3
--- use Rattle.cj_model.proofs.condition.Cond.TheSendSync as a4
--- use Rattle.cj_model.proofs.write.Write.TheSendSync as a5
--- use Rattle.cj_model.proofs.request.Act.TheSendSync as a6
--- use Rattle.cj_model.proofs.request.Entry.TheSendSync as a7
-use Rattle.cj_cluster.proofs.boxed.BoxedEntry.TheSendSync as a8
-use Rattle.cj_cluster.proofs.event.Event.TheSendSync as a9
-use Rattle.cj_model.proofs.name.Name.TheSendSync as a10
-use Rattle.cj_board.proofs.seats.Pass.TheSendSync as a11
-use Rattle.cj_board.proofs.seats.Board.TheSendSync as a12
-use Rattle.cj_locked.proofs.look.Look.TheSendSync as a13
-use Rattle.cj_book.proofs.book.Book.TheSendSync as a14
+use denote.Param.Send.{IsSend, IsSync, sendable, view_send, recorded_send, struct_send}
+use Rattle.std.proofs.Crossing as heap
+use Rattle.std.proofs.MapsCrossing as maps
+use Rattle.std.proofs.sync.ledger.Book.TheSendSync as ledger_book
+use Rattle.std.proofs.sync.ledger.Share.TheSendSync as ledger_share
+use Rattle.atomic_table.proofs.owned.Table.TheSendSync as table
+use Rattle.atomic_table.proofs.shared.Seat.TheSendSync as seat
+use Rattle.cj_board.specs.contracts.seats.BookSeat as book_seat
+use Rattle.cj_board.specs.contracts.seats.CellSeat as cell_seat
+use Rattle.cj_cluster.specs.contracts.boxed.BoxedEntry as boxed_entry
+use Rattle.cj_outside.specs.declared.store.Store as store
+use Rattle.cj_outside.specs.contracts.mem_store.MemStore as mem_store
+use Rattle.cj_backend.specs.declared.backend.Backend as backend
+use Rattle.cj_replica.specs.contracts.cell.Cell as cell
+use Rattle.cj_pass.specs.declared.naming.Naming as naming
+use Rattle.cj_pass.specs.contracts.pass.Pass as pass
+use Rattle.cj_pass.specs.contracts.pass.NamedBoard as named_board
+use Rattle.cj_locked.specs.contracts.book.LockedBook as locked_book
+use Rattle.cj_locked.specs.contracts.book.LockedBook.TheInside as locked_book_inside
+use Rattle.cj_locked_cell.specs.contracts.cell.LockedCell as locked_cell
+use Rattle.cj_locks.specs.contracts.locks.Locks as locks
+use Rattle.cj_control.specs.contracts.control.Control as control
+use Rattle.cj_book.specs.contracts.book_log.BookLog as book_log
+use Rattle.cj_model.proofs.condition.CondNode.TheLaws.TheKnot as conditions
+use Rattle.std.proofs.num.NonZeroUsize.TheSendSync as non_zero
+use Rattle.std.proofs.hash.FoldHasher.TheSendSync as hasher
+use Rattle.cj_cache.proofs.held.Held.TheSendSync as held
+use Rattle.lru.proofs.cache.LruCache.TheSendSync as lru
+use Rattle.std.proofs.hash.BuildHasherDefault.TheSendSync as build_hasher
+use Rattle.lru.proofs.entry.Deed.TheSendSync as deed
+use Rattle.lru.proofs.entry.NodePtr.TheSendSync as node
+use Rattle.lru.proofs.entry.Slot.TheSendSync as slot
+use Rattle.lru.proofs.key_ref.KeyRef.TheSendSync as key_ref
+use Rattle.lru.proofs.list.List.TheSendSync as list
+use Rattle.indexmap.proofs.index_table.Bucket.TheSendSync as bucket
+use Rattle.indexmap.proofs.index_table.group.Group.TheSendSync as group
+use Rattle.cj_cluster.specs.contracts.event.Event as event
+use Rattle.cj_board.specs.contracts.seats.Board as board
+use Rattle.cj_model.specs.contracts.select.Select as select
+use Rattle.cj_model.specs.contracts.answer.Answer as answer
+use Rattle.cj_cache.specs.contracts.cache.Cache as cache
+use Rattle.cj_cache.specs.contracts.cache.Cache.TheInside as cache_inside
+use denote.Struct.Declared.{shape}
+use Rattle.cj_book.specs.contracts.book.Book as book
+use Rattle.cj_book.specs.contracts.book.Book.TheInside as book_inside
 
+pub event_send : IsSend event.the_row
+event_send = search (heap.crosses, conditions.crosses, sendable) depth 60 fits 20000
+
+pub board_sync : IsSync (board.the_field).row
+board_sync = search (sendable, event_send, heap.crosses, heap.send, heap.sync, table.the_field_sync) depth 40
+
+pub select_send : IsSend select.the_row
+select_send = search (heap.crosses, conditions.crosses, sendable) depth 60 fits 20000
+
+pub select_sync : IsSync select.the_row
+select_sync = search (heap.crosses, conditions.crosses, sendable) depth 60 fits 20000
+
+pub answer_send : IsSend answer.the_row
+answer_send = search (heap.crosses, sendable) depth 60 fits 20000
+
+pub answer_sync : IsSync answer.the_row
+answer_sync = search (heap.crosses, sendable) depth 60 fits 20000
+
+cache_fields : IsSend cache_inside.the_row
+cache_fields = recorded_send (cache_inside.the_field).row _ _ (cache_inside.the_type).to_one (struct_send (shape cache_inside.the_type) (
+  search (heap.send, sendable) depth 20,
+  (
+    search (
+      lru.the_send,
+      build_hasher.the_field_send,
+      build_hasher.the_send,
+      heap.send,
+      heap.sync,
+      heap.frees,
+      held.the_field_send,
+      held.the_send,
+      non_zero.the_field_send,
+      non_zero.the_send,
+      hasher.the_field_send,
+      hasher.the_send,
+      deed.the_sync,
+      node.the_field_send,
+      node.the_send,
+      node.the_field_sync,
+      node.the_sync,
+      slot.the_field_sync,
+      slot.the_sync,
+      key_ref.the_send,
+      key_ref.the_sync,
+      list.the_send,
+      list.the_sync,
+      maps.crosses,
+      heap.crosses,
+      select_send,
+      select_sync,
+      answer_send,
+      answer_sync,
+      sendable,
+    ) depth 60 fits 20000,
+    (
+      search (
+        bucket.the_field_send,
+        bucket.the_send,
+        bucket.the_field_sync,
+        bucket.the_sync,
+        group.the_field_send,
+        group.the_send,
+        group.the_field_sync,
+        group.the_sync,
+        maps.crosses,
+        heap.crosses,
+        select_send,
+        select_sync,
+        sendable,
+      ) depth 60 fits 20000,
+      (
+        search sendable,
+        (
+          search sendable,
+          (
+            search sendable,
+            tt,
+          ),
+        ),
+      ),
+    ),
+  ),
+))
+
+pub cache_send : IsSend cache.the_row
+cache_send = view_send _ _ _ _ _ cache_fields
+
+pub book_seat_send : IsSend (book_seat.the_field).row
+book_seat_send = search (event_send, seat.the_send, sendable) depth 40
+
+pub cell_seat_send : IsSend (cell_seat.the_field).row
+cell_seat_send = search (event_send, seat.the_send, sendable) depth 40
+
+pub boxed_entry_send : IsSend boxed_entry.the_row
+boxed_entry_send = search (heap.crosses, conditions.crosses, sendable) depth 60 fits 20000
+
+book_fields : IsSend book_inside.the_row
+book_fields = recorded_send (book_inside.the_field).row _ _ (book_inside.the_type).to_one (struct_send (shape book_inside.the_type) (
+  search (cache_send, book_seat_send, boxed_entry_send, maps.crosses, heap.crosses, sendable) depth 60 fits 20000,
+  (
+    search (cache_send, book_seat_send, boxed_entry_send, maps.crosses, heap.crosses, sendable) depth 60 fits 20000,
+    (
+      search (cache_send, book_seat_send, boxed_entry_send, maps.crosses, heap.crosses, sendable) depth 60 fits 20000,
+      (
+        search (cache_send, book_seat_send, boxed_entry_send, maps.crosses, heap.crosses, sendable) depth 60 fits 20000,
+        (
+          search (cache_send, book_seat_send, boxed_entry_send, maps.crosses, heap.crosses, sendable) depth 60 fits 20000,
+          (
+            search (cache_send, book_seat_send, boxed_entry_send, maps.crosses, heap.crosses, sendable) depth 60 fits 20000,
+            (
+              search (cache_send, book_seat_send, boxed_entry_send, maps.crosses, heap.crosses, sendable) depth 60 fits 20000,
+              (
+                search (cache_send, book_seat_send, boxed_entry_send, maps.crosses, heap.crosses, sendable) depth 60 fits 20000,
+                (
+                  search (cache_send, book_seat_send, boxed_entry_send, maps.crosses, heap.crosses, sendable) depth 60 fits 20000,
+                  (
+                    search (cache_send, book_seat_send, boxed_entry_send, maps.crosses, heap.crosses, sendable) depth 60 fits 20000,
+                    (
+                      search (cache_send, book_seat_send, boxed_entry_send, maps.crosses, heap.crosses, sendable) depth 60 fits 20000,
+                      (
+                        search (cache_send, book_seat_send, boxed_entry_send, maps.crosses, heap.crosses, sendable) depth 60 fits 20000,
+                        (
+                          search (cache_send, book_seat_send, boxed_entry_send, maps.crosses, heap.crosses, sendable) depth 60 fits 20000,
+                          (
+                            search (cache_send, book_seat_send, boxed_entry_send, maps.crosses, heap.crosses, sendable) depth 60 fits 20000,
+                            tt,
+                          ),
+                        ),
+                      ),
+                    ),
+                  ),
+                ),
+              ),
+            ),
+          ),
+        ),
+      ),
+    ),
+  ),
+))
+
+pub book_send : IsSend (book.the_field).row
+book_send = view_send _ _ _ _ _ book_fields
+
+pub pass_send : (J : RattleType) (n : naming.Ghosts J.Denot) → IsSend J → IsSend (pass.the_row J n)
+pass_send J n sj = search (event_send, seat.the_send, sendable) depth 40
+
+pub named_board_sync : (J : RattleType) (n : naming.Ghosts J.Denot) → IsSync J → IsSync (named_board.the_field J n).row
+named_board_sync J n yj = search (board_sync, sendable) depth 40
+
+pub cell_send : (B D : RattleType) (b : backend.Ghosts B.Denot) (d : store.Ghosts D.Denot) → IsSend B → IsSend D → IsSend (cell.the_field B D b d).row
+cell_send B D b d sb sd = search (cell_seat_send, heap.crosses, sendable) depth 60 fits 20000
+
+pub locked_cell_send : (J B : RattleType) (n : naming.Ghosts J.Denot) (b : backend.Ghosts B.Denot) → IsSend J → IsSend B → IsSend (locked_cell.the_row J B n b)
+locked_cell_send J B n b sj sb = search (cell_send, heap.crosses, sendable) depth 60 fits 20000
+
+pub book_log_send : (S : RattleType) (s : store.Ghosts S.Denot) → IsSend S → IsSend (book_log.the_field S s).row
+book_log_send S s ss = search (heap.crosses, sendable) depth 60 fits 20000
+
+locked_book_fields : (J S : RattleType) (n : naming.Ghosts J.Denot) (s : store.Ghosts S.Denot) → IsSend J → IsSend S → IsSend (locked_book_inside.the_row J S s n)
+locked_book_fields J S n s sj ss = recorded_send (locked_book_inside.the_field J S s n).row _ _ (locked_book_inside.the_type J S s n).to_one (struct_send (shape (locked_book_inside.the_type J S s n)) (
+  search (book_send, sendable) depth 20,
+  (
+    search (ledger_book.the_send, heap.crosses, sendable) depth 60 fits 20000,
+    (
+      search (ledger_share.the_send, book_log_send, heap.crosses, sendable) depth 60 fits 20000,
+      (
+        search (heap.crosses, sendable) depth 20,
+        tt,
+      ),
+    ),
+  ),
+))
+
+pub locked_book_send : (J S : RattleType) (n : naming.Ghosts J.Denot) (s : store.Ghosts S.Denot) → IsSend J → IsSend S → IsSend (locked_book.the_row J S s n)
+locked_book_send J S n s sj ss = view_send _ _ _ _ _ (locked_book_fields J S n s sj ss)
+
+pub locks_sync : (J B S : RattleType) (n : naming.Ghosts J.Denot) (b : backend.Ghosts B.Denot) (s : store.Ghosts S.Denot) → IsSend J → IsSync J → IsSend B → IsSend S → IsSync (locks.the_field J B S n b s).row
+locks_sync J B S n b s sj yj sb ss = search (named_board_sync, locked_book_send, locked_cell_send, heap.crosses, sendable) depth 60 fits 20000
+
+pub control_sync : (J B S : RattleType) (n : naming.Ghosts J.Denot) (b : backend.Ghosts B.Denot) (s : store.Ghosts S.Denot) → IsSend J → IsSync J → IsSend B → IsSend S → IsSync (control.the_row J B S n b s)
+control_sync J B S n b s sj yj sb ss = search (locks_sync, locked_cell_send, heap.crosses, sendable) depth 60 fits 20000
+
+pub store_send : IsSend mem_store.the_row
+store_send = search (heap.crosses, sendable) depth 60 fits 20000

@@ -91,11 +91,7 @@ fn started<B: Backend + Drop>(
 }
 
 /// Takes the steps at the cluster of these parts, and gives up its backends.
-fn play_at<
-    J: Naming + Send + Sync,
-    B: Backend + Drop + Send + Sync,
-    R: Threads + Wait + Abort + Sync,
->(
+fn play_at<J: Naming + Send + Sync, B: Backend + Drop + Send, R: Threads + Wait + Abort + Sync>(
     rt: &R,
     alloc: Global,
     shared: Shared<B, MemStore>,
@@ -122,7 +118,7 @@ fn play_at<
 }
 
 /// Takes the steps at a new cluster over these backends, and gives them up. The store of its log fails at these calls.
-pub fn play<B: Backend + Drop + Send + Sync, R: Threads + Wait + Abort + Sync>(
+pub fn play<B: Backend + Drop + Send, R: Threads + Wait + Abort + Sync>(
     rt: &R,
     alloc: Global,
     one: B,

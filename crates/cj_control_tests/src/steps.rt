@@ -76,11 +76,7 @@ fn serve<J: Naming, B: Backend, R: Wait + Abort>(
 }
 
 /// Serves two sessions, in a thread each.
-fn serve_both<
-    J: Naming + Send + Sync,
-    B: Backend + Drop + Send + Sync,
-    R: Threads + Wait + Abort + Sync,
->(
+fn serve_both<J: Naming + Send + Sync, B: Backend + Drop + Send, R: Threads + Wait + Abort + Sync>(
     rt: &R,
     alloc: Global,
     control: &Control<J, B, MemStore>,
@@ -189,11 +185,7 @@ fn audit<J: Naming, B: Backend, R: Wait + Abort>(
 }
 
 /// Takes a step, and compares what it gives.
-pub fn take<
-    J: Naming + Send + Sync,
-    B: Backend + Drop + Send + Sync,
-    R: Threads + Wait + Abort + Sync,
->(
+pub fn take<J: Naming + Send + Sync, B: Backend + Drop + Send, R: Threads + Wait + Abort + Sync>(
     rt: &R,
     alloc: Global,
     control: &Control<J, B, MemStore>,
