@@ -1,6 +1,6 @@
 use denote.Param.Send.{sendable}
 use Rattle.std.proofs.Crossing as heap
-use Rattle.cj_control_tests.proofs.Crossing.{control_sync, pass_send, store_send}
+use Rattle.cj_control.proofs.Crossing.{control_sync, pass_send, store_send}
 use Rattle.cj_control_tests.proofs.steps.serve_both.Goals as goal
 
 -- what the other thread is handed may cross
