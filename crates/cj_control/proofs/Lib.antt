@@ -1,5 +1,6 @@
 pub mod Administering
 pub mod Auditing
 pub mod Callers
+pub mod Crossing
 pub mod Showing
 pub mod Starting
