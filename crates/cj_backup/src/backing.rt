@@ -87,8 +87,8 @@ fn put<D: Store>(shelf: &mut Shelf<D>, dump: &Dump) -> Result<u64, BackupError>
 /// is then disabled and not out.
 ///
 /// A dump's name is looked at first, a marker's after whether the backend is enabled. After `Failed` and `StoreFault`,
-/// and after `NoMemory` if the marker came, the backend is disabled and not out. Each other refusal changes nothing but
-/// that `LogFault` has its event.
+/// and after `NoMemory` if the marker came, the backend is disabled and not out. After `HistoryFull` the marker may
+/// stand, with the backend still enabled. Each other refusal changes nothing, but `LogFault` has its event.
 pub fn backup<J: Naming, B: Backend, S: Store + Drop, D: Store, R: Wait>(
     rt: &R,
     control: &Control<J, B, S>,

@@ -1,6 +1,5 @@
 pub mod Administration
 pub mod Auditing
 pub mod Callers
-pub mod Restoring
 pub mod Showing
 pub mod Starting

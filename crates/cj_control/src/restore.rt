@@ -1,139 +1,42 @@
-//! How a backend that is out is loaded, and what may refuse a backend on its way back.
+//! How the administrator takes a dump of a backend, and has a lost one come back.
 
-ghost use Rattle.std.specs.Prelude.{◌≡◌, ◌<◌, ◌≤◌, ℕ, true, length};
-ghost use Rattle.cj_model.specs.Cluster.Masks.{in_mask};
-ghost use Rattle.cj_model.specs.Cluster.Placements.{part};
-ghost use Rattle.cj_model.specs.Database.Storable.{IsStorable};
-ghost use Rattle.cj_cluster.specs.History.Histories.{database_after, is_enabled, log};
+ghost use Rattle.std.specs.Prelude.{◌≡◌, ◌≢◌, ◌<◌, [], length};
 ghost use Rattle.cj_cluster.specs.History.Legality.{IsLegal};
-ghost use Rattle.cj_place.specs.Layouts.{placement_of};
 ghost use Rattle.cj_board.specs.Seats.{front, pass_view};
 ghost use Rattle.cj_pass.specs.Passes.{HasNotedMore};
-ghost use Rattle.cj_locked_cell.specs.Loading.{IsLoaded, Stands};
-ghost use Rattle.cj_control.specs.Restoring.{IsRightDump, Loads};
+ghost use Rattle.cj_locks.specs.Dumping.{Dumps};
+ghost use Rattle.cj_locks.specs.Restoring.{Enables, IsRightDump, Loads, Replays};
 
 use crate::control::Control;
 use cj_backend::Backend;
-use cj_dump::{Dump, cut, lacks};
-use cj_locked_cell::{SeenOut, Stand};
-use cj_model::{Db, Name, has_bit};
+use cj_dump::Dump;
+use cj_locks::RestoreError;
+use cj_model::Name;
 use cj_outside::Store;
 use cj_pass::{Naming, Pass};
-use cj_replica::CellError;
 use std::sync::Wait;
-use thiserror::Error;
-
-/// Why a backend was not dumped, loaded, replayed or enabled.
-#[derive(Debug, Drop, Error)]
-pub enum RestoreError {
-    #[error("the backend is not enabled")]
-    NotEnabled,
-    #[error("the backend is enabled already")]
-    AlreadyEnabled,
-    #[error("a marker has the name already")]
-    NameTaken,
-    /// The backend is the only enabled host of this table; the empty name if it alone is enabled and hosts every table.
-    #[error("the backend is the last enabled host of a table")]
-    LastHost(Name),
-    /// The history has this many events, and no room for what was asked for.
-    #[error("the history of {0} events is full")]
-    HistoryFull(u64),
-    /// The log's store failed and counted a fault. The history has a new event that tells of the failure.
-    #[error("the store of the recovery log failed")]
-    LogFault,
-    /// The backend of this number failed, and counted a fault.
-    #[error("backend {0} failed")]
-    Fault(u8),
-    /// The backend ran out of memory.
-    #[error("the backend is out of memory")]
-    Starved,
-    /// The backend has missed an entry, and needs a dump.
-    #[error("the backend is out")]
-    Out(SeenOut),
-    #[error("the backend is not out")]
-    NotOut,
-    /// The dump lacks this table of the backend; the empty name if it lacks one of all.
-    #[error("the dump lacks a table of the backend")]
-    DumpLacks(Name),
-    /// The dump is at this position, which the log does not have yet.
-    #[error("the dump is at position {0}, ahead of the log")]
-    DumpAhead(u64),
-    #[error("out of memory")]
-    NoMemory,
-}
 
 impl<J: Naming, B: Backend, S: Store + Drop> Control<J, B, S> {
-    /// Returns how many entries the log has.
-    pub(crate) fn log_length<R: Wait>(&self, rt: &R, pass: &mut Pass<J>) -> u64
-        ensures length { result ≡ length (log (front pass.new.seat)) }
-        ensures more { HasNotedMore (pass_view pass.old.seat) (pass_view pass.new.seat) }
-        ensures legal { IsLegal (front pass.new.seat) }
-    {
-        self.locks.book.lock(rt).log_length(&self.locks.board, pass)
-    }
-
-    /// Returns the mask of the enabled backends.
-    fn enabled<R: Wait>(&self, rt: &R, pass: &mut Pass<J>) -> u32
-        ensures enabled { (b : ℕ) → in_mask result b ≡ is_enabled (front pass.new.seat) b }
-        ensures more { HasNotedMore (pass_view pass.old.seat) (pass_view pass.new.seat) }
-        ensures legal { IsLegal (front pass.new.seat) }
-    {
-        self.locks.book.lock(rt).enabled(&self.locks.board, pass)
-    }
-
-    /// Whether the mask has the backend.
-    pub(crate) fn is_in(&self, mask: u32, b: u8) -> bool
-        requires below { b < length J.layout.names }
-        ensures { result ≡ in_mask mask b }
-    {
-        // So its number is one that a mask can have.
-        let _ = self.locks.placement.count();
-        has_bit(mask, b)
-    }
-
-    /// Returns whether a backend is enabled.
-    pub(crate) fn is_enabled<R: Wait>(&self, rt: &R, pass: &mut Pass<J>, b: u8) -> bool
-        requires below { b < length J.layout.names }
-        ensures is { result ≡ is_enabled (front pass.new.seat) b }
-        ensures more { HasNotedMore (pass_view pass.old.seat) (pass_view pass.new.seat) }
-        ensures legal { IsLegal (front pass.new.seat) }
-    {
-        let enabled = self.enabled(rt, pass);
-        self.is_in(enabled, b)
-    }
-
-    /// Looks where a backend stands.
-    pub(crate) fn stand<R: Wait>(&self, rt: &R, pass: &mut Pass<J>, b: u8) -> Stand
-        requires below { b < length J.layout.names }
-        ensures stands { Stands b (pass_view pass.new.seat) result }
-        ensures more { HasNotedMore (pass_view pass.old.seat) (pass_view pass.new.seat) }
-        ensures legal { IsLegal (front pass.new.seat) }
-    {
-        self.locks.cells[b as usize]
-            .lock(rt)
-            .stand(&self.locks.board, pass, b)
-    }
-
-    /// Has backend `b` hold this part of the database, which is that at the position. False if it is not out.
-    fn load_part<R: Wait>(
+    /// Marks a dump of backend `b` under this name, disables the backend behind the marker, and reads what it holds.
+    /// Waits for the turn. No lock is held while the log appends the marker.
+    ///
+    /// After `Fault` the marker stands, and the backend is disabled and not out; so too after `NoMemory`, if the marker
+    /// came. After `HistoryFull` the marker may stand, with the backend still enabled. Each other refusal changes
+    /// nothing, but `LogFault` has its event.
+    pub fn begin_dump<R: Wait>(
         &self,
         rt: &R,
         pass: &mut Pass<J>,
         b: u8,
-        db: Db,
-        position: u64,
-    ) -> Result<bool, CellError>
+        name: &Name,
+    ) -> Result<Dump, RestoreError>
         requires below { b < length J.layout.names }
-        requires storable { IsStorable db }
-        requires within { position ≤ length (log (front pass.old.seat)) }
-        requires right { B.tells ≡ true → db ≡ part (placement_of J.layout) b (database_after (log (front pass.old.seat)) position) }
-        ensures loaded { IsLoaded b position (pass_view pass.old.seat) (pass_view pass.new.seat) result }
+        requires named { name.now ≢ [] }
+        ensures dumps { Dumps B.tells J.layout b name.now (pass_view pass.old.seat) (pass_view pass.new.seat) result }
         ensures more { HasNotedMore (pass_view pass.old.seat) (pass_view pass.new.seat) }
         ensures legal { IsLegal (front pass.new.seat) }
     {
-        self.locks.cells[b as usize]
-            .lock(rt)
-            .load(&self.locks.board, pass, b, db, position)
+        self.locks.begin_dump(rt, pass, b, name)
     }
 
     /// Has backend `b`, which is out, hold its tables of a dump. It is at the dump's position then.
@@ -153,27 +56,38 @@ impl<J: Naming, B: Backend, S: Store + Drop> Control<J, B, S> {
         ensures more { HasNotedMore (pass_view pass.old.seat) (pass_view pass.new.seat) }
         ensures legal { IsLegal (front pass.new.seat) }
     {
-        let length = self.log_length(rt, pass);
-        if self.is_enabled(rt, pass, b) {
-            return Err(RestoreError::AlreadyEnabled);
-        }
-        match self.stand(rt, pass, b) {
-            Stand::Out(_) => {}
-            Stand::At(_) => return Err(RestoreError::NotOut),
-            Stand::Elsewhere => return Err(RestoreError::Starved),
-        }
-        if let Some(table) = lacks(&d, &self.locks.placement, b) {
-            return Err(RestoreError::DumpLacks(table));
-        }
-        if d.position > length {
-            return Err(RestoreError::DumpAhead(d.position));
-        }
-        let Dump { position, db, .. } = cut(d, &self.locks.placement, b);
-        match self.load_part(rt, pass, b, db, position) {
-            Ok(true) => Ok(()),
-            Ok(false) => Err(RestoreError::NotOut),
-            Err(CellError::Failed) => Err(RestoreError::Fault(b)),
-            Err(CellError::Starved) => Err(RestoreError::Starved),
-        }
+        self.locks.load(rt, pass, b, d)
+    }
+
+    /// Has backend `b`, which is disabled and not out, take up to `most` entries more, and returns how many it has
+    /// taken then. It goes as far as the log did when the call began. Takes no turn, so entries go on meanwhile.
+    ///
+    /// After `Fault` and `Starved` the backend is out. After another error it keeps the entries that it has taken.
+    pub fn replay<R: Wait>(
+        &self,
+        rt: &R,
+        pass: &mut Pass<J>,
+        b: u8,
+        most: u64,
+    ) -> Result<u64, RestoreError>
+        requires below { b < length J.layout.names }
+        ensures replays { Replays b most (pass_view pass.old.seat) (pass_view pass.new.seat) result }
+        ensures more { HasNotedMore (pass_view pass.old.seat) (pass_view pass.new.seat) }
+        ensures legal { IsLegal (front pass.new.seat) }
+    {
+        self.locks.replay(rt, pass, b, most)
+    }
+
+    /// Waits for the turn, has backend `b` take the rest of the log, and enables it. Returns the position at which it
+    /// was enabled. The turn is given back in any case.
+    ///
+    /// After `Fault` and `Starved` the backend is out. After another error it keeps the entries that it has taken.
+    pub fn enable<R: Wait>(&self, rt: &R, pass: &mut Pass<J>, b: u8) -> Result<u64, RestoreError>
+        requires below { b < length J.layout.names }
+        ensures enables { Enables b (pass_view pass.old.seat) (pass_view pass.new.seat) result }
+        ensures more { HasNotedMore (pass_view pass.old.seat) (pass_view pass.new.seat) }
+        ensures legal { IsLegal (front pass.new.seat) }
+    {
+        self.locks.enable(rt, pass, b)
     }
 }

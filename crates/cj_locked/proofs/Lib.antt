@@ -1,6 +1,5 @@
 pub mod Beginning
 pub mod Changing
-pub mod Dumping
 pub mod Ending
 pub mod Failing
 pub mod Finishing

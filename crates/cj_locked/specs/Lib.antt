@@ -1,6 +1,5 @@
 pub mod Auditing
 pub mod Changes
-pub mod Dumping
 pub mod Failures
 pub mod Listing
 pub mod Locked

@@ -26,6 +26,7 @@ impl<J: Naming, S: Store + Drop> LockedBook<J, S> {
         requires vacant { is_none self.old.log ≡ false }
         requires below { b < length J.layout.names }
         ensures brings { BringsSince (front pass.old.seat) (front pass.new.seat) (Event.Disabled b) (λ h. is_enabled h b) result }
+        ensures now { BringsAt self.old.book.state.history (Event.Disabled b) (is_enabled self.old.book.state.history b) result self.new.book.state.history }
         ensures more { HasNotedMore (pass_view pass.old.seat) (pass_view pass.new.seat) }
         ensures legal { IsLegal (front pass.new.seat) }
         ensures told { front pass.new.seat ≡ self.new.book.state.history }
@@ -38,7 +39,7 @@ impl<J: Naming, S: Store + Drop> LockedBook<J, S> {
     }
 
     /// Disables a backend, of which no pass hears. False if it is disabled already.
-    pub(crate) fn disable_now(&mut self, board: &NamedBoard<J>, b: u8) -> Result<bool, BookError>
+    fn disable_now(&mut self, board: &NamedBoard<J>, b: u8) -> Result<bool, BookError>
         requires vacant { is_none self.old.log ≡ false }
         requires below { b < length J.layout.names }
         ensures brings { BringsAt self.old.book.state.history (Event.Disabled b) (is_enabled self.old.book.state.history b) result self.new.book.state.history }
@@ -62,7 +63,7 @@ impl<J: Naming, S: Store + Drop> LockedBook<J, S> {
     }
 
     /// Takes the turn back from who held it, and enables a backend that has taken the first `n` entries. False if it is
-    /// enabled already, or if there are more entries by now; neither comes if the turn was held since that was seen.
+    /// enabled already, or if the log has more entries.
     pub fn enable(
         &mut self,
         board: &NamedBoard<J>,

@@ -1,6 +1,6 @@
 //! The turn, held by who brings no event, and a look at which backends are enabled.
 
-ghost use Rattle.std.specs.Prelude.{◌≡◌, ℕ, List, None, true, false, length, slice_get, Contains, IfOk, is_none};
+ghost use Rattle.std.specs.Prelude.{◌≡◌, ℕ, List, None, true, false, length, Contains, is_none};
 ghost use mathlib.Core.List.{IsPrefix};
 ghost use Rattle.cj_model.specs.Cluster.Masks.{in_mask};
 ghost use Rattle.cj_cluster.specs.declared.event.Event.{Event};
@@ -13,10 +13,8 @@ ghost use Rattle.cj_locked.specs.Turns.{turn_amount};
 
 use crate::book::LockedBook;
 use crate::turn::{Turn, taken};
-use cj_model::{Duplicate, Entry, NoMemory};
 use cj_outside::Store;
 use cj_pass::{NamedBoard, Naming, Pass};
-use std::alloc::Global;
 
 /// The turn, and what stays while it is held: no entry is open.
 pub struct HeldTurn<J: Naming, S: Store> {
@@ -83,43 +81,5 @@ impl<J: Naming, S: Store + Drop> LockedBook<J, S> {
     {
         self.tell(board, pass);
         self.book.enabled()
-    }
-
-    /// Shows the pass the history, and returns how many entries its log has.
-    pub fn log_length(&mut self, board: &NamedBoard<J>, pass: &mut Pass<J>) -> u64
-        ensures length { result ≡ length (log (front pass.new.seat)) }
-        ensures more { HasNotedMore (pass_view pass.old.seat) (pass_view pass.new.seat) }
-        ensures legal { IsLegal (front pass.new.seat) }
-        ensures told { front pass.new.seat ≡ self.new.book.state.history }
-        ensures state { self.new.book.state ≡ self.old.book.state }
-        ensures log { self.new.log ≡ self.old.log }
-    {
-        self.tell(board, pass);
-        self.book.length()
-    }
-
-    /// Shows the pass the history, and copies the entry behind the first `n`. None if the log has no more.
-    pub fn entry_after(
-        &mut self,
-        alloc: Global,
-        board: &NamedBoard<J>,
-        pass: &mut Pass<J>,
-        n: u64,
-    ) -> Result<Option<Entry>, NoMemory>
-        ensures copy { IfOk result (λ entry. entry ≡ slice_get (log (front pass.new.seat)) n) }
-        ensures more { HasNotedMore (pass_view pass.old.seat) (pass_view pass.new.seat) }
-        ensures legal { IsLegal (front pass.new.seat) }
-        ensures told { front pass.new.seat ≡ self.new.book.state.history }
-        ensures state { self.new.book.state ≡ self.old.book.state }
-        ensures log { self.new.log ≡ self.old.log }
-    {
-        self.tell(board, pass);
-        if n >= self.book.length() {
-            return Ok(None);
-        }
-        match self.book.entry(n + 1) {
-            Some(entry) => Ok(Some(entry.copy(alloc)?)),
-            None => Ok(None),
-        }
     }
 }

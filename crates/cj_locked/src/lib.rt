@@ -13,7 +13,6 @@
 
 mod book;
 mod change;
-mod dump;
 mod failure;
 mod hold;
 mod listing;
@@ -24,7 +23,6 @@ mod session;
 mod turn;
 
 pub use book::{Begun, LockedBook, OpenEntry};
-pub use dump::DumpRefusal;
 pub use failure::ReadFailure;
 pub use hold::HeldTurn;
 pub use listing::ShownItem;

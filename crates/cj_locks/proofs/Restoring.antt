@@ -1,119 +1,30 @@
--- How a backend comes back: what its dump, its load, the replay and the enabling come to.
-use Rattle.std.proofs.Common.{◌≡◌, ◌⊎◌, inl, inr, ⊎_elim, ℕ, ◌+◌, ◌<◌, ◌≤◌, ◌==◌, ◌&&◌, not, Bool, true, false, List, [], ◌∷◌, ◌++◌, length, Contains, Option, slice_get, None, Some, Result, Ok, Err, ap, sym, ◌∙◌, subst, arith, eqb-true}
+-- How a backend comes back: what its load, the replay and the enabling come to.
+use Rattle.std.proofs.Common.{◌≡◌, ◌⊎◌, inl, inr, ⊎_elim, ℕ, ◌+◌, ◌<◌, ◌≤◌, ◌==◌, ◌&&◌, not, Bool, true, false, List, length, Contains, Option, None, Some, Result, Ok, Err, slice_get, ap, sym, ◌∙◌, subst, arith, eqb-true}
 use Rattle.std.proofs.lemmas.Bool.{and_parts, not-true}
 use Rattle.std.proofs.lemmas.Option.{slice_get_within}
 use mathlib.Core.List.{IsPrefix}
-use Rattle.cj_model.specs.declared.database.Slot.{Slot}
 use Rattle.cj_model.specs.declared.request.Entry.{Entry}
-use Rattle.cj_model.specs.Cluster.Masks.{in_mask}
 use Rattle.cj_model.specs.Cluster.Placements.{part}
 use Rattle.cj_model.specs.Database.Storable.{IsStorable}
+use Rattle.cj_model.proofs.PartLaws.{part_is_storable}
 use Rattle.cj_cluster.specs.declared.event.Event.{Event}
-use Rattle.cj_cluster.specs.declared.event.Event.TheVariants.{Disabled, Enabled, Marker}
+use Rattle.cj_cluster.specs.declared.event.Event.TheVariants.{Enabled}
 use Rattle.cj_cluster.specs.History.Histories.{database_after, events_left, is_enabled, log}
-use Rattle.cj_cluster.proofs.Pushed.{log-prefix, prefix_length, prefix_self, prefix_trans}
+use Rattle.cj_cluster.proofs.Pushed.{prefix_trans}
 use Rattle.cj_place.specs.Layouts.{Layout, placement_of}
 use Rattle.cj_board.specs.declared.view.SeatView.{SeatView}
-use Rattle.cj_book.specs.declared.error.BookError.{BookError}
 use Rattle.cj_book.specs.declared.error.BookError.TheVariants as book_errors
 use Rattle.cj_dump.specs.declared.dump.Dump.{Dump}
-use Rattle.cj_dump.specs.Coverage.{cut, lacks, HasCoveredTables}
+use Rattle.cj_dump.specs.Coverage.{cut, lacks}
 use Rattle.cj_dump.proofs.Cuts.{cut_is_part}
-use Rattle.cj_model.proofs.PartLaws.{part_is_storable}
 use Rattle.cj_pass.specs.Passes.{HasNotedMore}
 use Rattle.cj_pass.proofs.Passes.{noted_self}
-use Rattle.cj_locked_cell.specs.Asking.{NotesFault}
 use Rattle.cj_locked_cell.proofs.Asking.{fault_between}
 use Rattle.cj_locked_cell.proofs.Loading.{part_later, within_later}
-use Rattle.cj_locked.specs.Auditing.{IsHeldOver}
 use Rattle.cj_locked.specs.Changes.{BringsSince}
-use Rattle.cj_locked.specs.Dumping.{CanSpare, DumpsSince, RefusesDump}
-use Rattle.cj_locked.specs.declared.dump.DumpRefusal.{DumpRefusal}
-use Rattle.cj_locked.specs.declared.dump.DumpRefusal.TheVariants as refusals
-use Rattle.cj_control.specs.Restoring.{refusal_of, Dumps, Enables, IsRightDump, MarksDump, ReadsDump, Replays, ReplaysTo, TakesNext}
-use Rattle.cj_control.specs.declared.restore.RestoreError.{RestoreError}
-use Rattle.cj_control.specs.declared.restore.RestoreError.TheVariants as errors
-
--- ---- a dump
-
--- no dump was begun
-pub dump_refused : (tells : Bool) (l : Layout) (b : ℕ) (name : List ℕ) (u v : SeatView) → IsPrefix u.front v.front → (r : DumpRefusal) → RefusesDump l v.front b name r → Dumps tells l b name u v (Err (refusal_of r))
-dump_refused tells l b name u v longer refusals.NotEnabled why = (longer, why)
-dump_refused tells l b name u v longer refusals.NameTaken why = why
-dump_refused tells l b name u v longer (refusals.LastHost table) why = (why.1, why.2)
-dump_refused tells l b name u v longer (refusals.HistoryFull n) why = (why.2, why.3)
-dump_refused tells l b name u v longer refusals.NoMemory why = tt
-
--- while the turn was held the same backends were enabled
-spare_over : (l : Layout) (F m : List Event) (b : ℕ) → IsHeldOver F m → CanSpare l F b → CanSpare l m b
-spare_over l F m b over spare = record { enabled = over.enabled b ∙ spare.enabled; mask = spare.mask; is = λ c. spare.is c ∙ sym (over.enabled c); spare = spare.spare }
-
--- the dump was begun where a pass had seen F, and finished where it had seen H
-module _ (tells : Bool) (l : Layout) (b : ℕ) (name : List ℕ) (u v : SeatView) (spare : CanSpare l u.front b) where
-  dump_marks : (n : ℕ) → DumpsSince u.front v.front name b (Ok n) → (w : SeatView) → IsPrefix v.front w.front → MarksDump l u.front w.front name b
-  dump_marks n since w longer = record {
-    m = since.m;
-    longer = since.over.longer;
-    fresh = since.at.1;
-    spare = spare_over l u.front since.m b since.over spare;
-    seen = subst (λ (x : List Event). IsPrefix x w.front) since.at.3 longer;
-  }
-
-  -- the backend was asked for what it holds
-  pub dump_read : (n : ℕ) → DumpsSince u.front v.front name b (Ok n) → HasNotedMore u v → (w : SeatView) → HasNotedMore v w → (r : Result Dump RestoreError) → ReadsDump tells l name b n v w r → Dumps tells l b name u w r
-  dump_read n since before w more r reads = by r reads
-    where
-      marks : MarksDump l u.front w.front name b
-      marks = dump_marks n since w more.seen.front
-
-      behind : IsPrefix since.m w.front
-      behind = prefix_trans since.m (since.m ++ Marker name (Some b) ∷ Disabled b ∷ []) w.front (Marker name (Some b) ∷ Disabled b ∷ [], refl) marks.seen
-
-      by : (q : Result Dump RestoreError) → ReadsDump tells l name b n v w q → Dumps tells l b name u w q
-      by (Ok d) is = (marks, is since.m behind since.at.0)
-      by (Err (errors.Fault k)) is = (is.0, marks, fault_between b u v w w before (noted_self w) is.1)
-      by (Err errors.NoMemory) is = tt
-      by (Err errors.NotEnabled) is = absurd is
-      by (Err errors.AlreadyEnabled) is = absurd is
-      by (Err errors.NameTaken) is = absurd is
-      by (Err (errors.LastHost table)) is = absurd is
-      by (Err (errors.HistoryFull k)) is = absurd is
-      by (Err errors.LogFault) is = absurd is
-      by (Err errors.Starved) is = absurd is
-      by (Err (errors.Out seen)) is = absurd is
-      by (Err errors.NotOut) is = absurd is
-      by (Err (errors.DumpLacks table)) is = absurd is
-      by (Err (errors.DumpAhead k)) is = absurd is
-
--- failures in queries had taken the room of the second event
-pub dump_full : (tells : Bool) (l : Layout) (b : ℕ) (name : List ℕ) (u v : SeatView) (n : ℕ) → DumpsSince u.front v.front name b (Err (book_errors.HistoryFull n)) → Dumps tells l b name u v (Err (errors.HistoryFull n))
-dump_full tells l b name u v n since = let none : events_left v.front < 1 = since.at.2 in (since.at.1, omega (arith, none))
-
-pub dump_faulted : (tells : Bool) (l : Layout) (b : ℕ) (name : List ℕ) (u v : SeatView) → DumpsSince u.front v.front name b (Err book_errors.LogFault) → Dumps tells l b name u v (Err errors.LogFault)
-dump_faulted tells l b name u v since = (since.m, since.over.longer, since.at)
-
--- a pass had seen less before
-pub dumps_earlier : (tells : Bool) (l : Layout) (b : ℕ) (name : List ℕ) (u v w : SeatView) → HasNotedMore u v → (r : Result Dump RestoreError) → Dumps tells l b name v w r → Dumps tells l b name u w r
-dumps_earlier tells l b name u v w more r dumps = by r dumps
-  where
-    marks_earlier : MarksDump l v.front w.front name b → MarksDump l u.front w.front name b
-    marks_earlier marks = record { m = marks.m; longer = prefix_trans u.front v.front marks.m more.seen.front marks.longer; fresh = marks.fresh; spare = marks.spare; seen = marks.seen }
-
-    by : (q : Result Dump RestoreError) → Dumps tells l b name v w q → Dumps tells l b name u w q
-    by (Ok d) is = (marks_earlier is.0, is.1)
-    by (Err errors.NotEnabled) is = (prefix_trans u.front v.front w.front more.seen.front is.0, is.1)
-    by (Err errors.NameTaken) is = is
-    by (Err (errors.LastHost table)) is = is
-    by (Err (errors.HistoryFull k)) is = is
-    by (Err errors.LogFault) is = (is.0, prefix_trans u.front v.front is.0 more.seen.front is.1, is.2)
-    by (Err (errors.Fault k)) is = (is.0, marks_earlier is.1, fault_between b u v w w more (noted_self w) is.2)
-    by (Err errors.NoMemory) is = tt
-    by (Err errors.AlreadyEnabled) is = absurd is
-    by (Err errors.Starved) is = absurd is
-    by (Err (errors.Out seen)) is = absurd is
-    by (Err errors.NotOut) is = absurd is
-    by (Err (errors.DumpLacks table)) is = absurd is
-    by (Err (errors.DumpAhead k)) is = absurd is
+use Rattle.cj_locks.specs.Restoring.{Enables, IsRightDump, Replays, ReplaysTo, TakesNext}
+use Rattle.cj_locks.specs.declared.restore.RestoreError.{RestoreError}
+use Rattle.cj_locks.specs.declared.restore.RestoreError.TheVariants as errors
 
 -- ---- a load
 

@@ -9,21 +9,21 @@ ghost use Rattle.cj_locked_cell.specs.Asking.{NotesFault};
 ghost use Rattle.cj_locked_cell.specs.Loading.{Stands};
 ghost use Rattle.cj_locked_cell.specs.Taking.{NotesReport};
 ghost use Rattle.cj_locked.specs.Auditing.{HoldsTurn};
-ghost use Rattle.cj_control.specs.Restoring.{Enables, Replays, ReplaysTo, TakesNext};
+ghost use Rattle.cj_locks.specs.Restoring.{Enables, Replays, ReplaysTo, TakesNext};
 
-use crate::control::Control;
+use crate::locks::Locks;
 use crate::restore::RestoreError;
 use cj_backend::Backend;
 use cj_book::BookError;
 use cj_cluster::Did;
 use cj_locked::{HeldTurn, Turn};
 use cj_locked_cell::Stand;
-use cj_model::{Entry, NoMemory};
+use cj_model::{Duplicate, Entry, NoMemory};
 use cj_outside::Store;
 use cj_pass::{Naming, Pass};
 use std::sync::Wait;
 
-impl<J: Naming, B: Backend, S: Store + Drop> Control<J, B, S> {
+impl<J: Naming, B: Backend, S: Store + Drop> Locks<J, B, S> {
     /// Copies the entry behind the first `n`. None if the log has no more.
     fn entry_after<R: Wait>(
         &self,
@@ -35,10 +35,12 @@ impl<J: Naming, B: Backend, S: Store + Drop> Control<J, B, S> {
         ensures more { HasNotedMore (pass_view pass.old.seat) (pass_view pass.new.seat) }
         ensures legal { IsLegal (front pass.new.seat) }
     {
-        self.locks
-            .book
-            .lock(rt)
-            .entry_after(self.locks.alloc, &self.locks.board, pass, n)
+        let mut book = self.book.lock(rt);
+        book.tell(&self.board, pass);
+        match book.entry_after(n) {
+            Some(entry) => Ok(Some(entry.copy(self.alloc)?)),
+            None => Ok(None),
+        }
     }
 
     /// Has backend `b` take entry `n`. A cell of another backend reports that it ran out of memory, in a branch that
@@ -52,11 +54,14 @@ impl<J: Naming, B: Backend, S: Store + Drop> Control<J, B, S> {
         ensures more { HasNotedMore (pass_view pass.old.seat) (pass_view pass.new.seat) }
         ensures legal { IsLegal (front pass.new.seat) }
     {
-        let login = self.locks.accounts.mapped(&e.user, b);
-        let (number, did) = self.locks.cells[b as usize]
+        let login = self.accounts.mapped(&e.user, b);
+        let (number, did) = self.cells[b as usize]
             .lock(rt)
-            .take(&self.locks.board, pass, n, e, login);
-        if number == b { did } else { Did::Starved }
+            .take(&self.board, pass, n, e, login);
+        if number != b {
+            return Did::Starved;
+        }
+        did
     }
 
     /// Has backend `b`, which has taken `n` entries, take this one, which is the next.
@@ -211,9 +216,9 @@ impl<J: Naming, B: Backend, S: Store + Drop> Control<J, B, S> {
             .locks
             .book
             .lock(rt)
-            .enable(&self.locks.board, pass, turn, b, n);
-        self.locks.turn_back.notify_one();
-        self.locks.settled.notify_all();
+            .enable(&self.board, pass, turn, b, n);
+        self.turn_back.notify_one();
+        self.settled.notify_all();
         match enabled {
             Ok(true) => Ok(n),
             Err(BookError::HistoryFull(events)) => Err(RestoreError::HistoryFull(events)),
@@ -236,7 +241,7 @@ impl<J: Naming, B: Backend, S: Store + Drop> Control<J, B, S> {
             length,
             enabled,
             turn,
-        } = self.locks.wait_for_turn(rt).hold(&self.locks.board, pass);
+        } = self.wait_for_turn(rt).hold(&self.board, pass);
         if self.is_in(enabled, b) {
             self.give_back(rt, pass, turn);
             return Err(RestoreError::AlreadyEnabled);

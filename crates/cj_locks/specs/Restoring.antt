@@ -1,78 +1,24 @@
--- How a backend is dumped, loaded, brought to the log's end and enabled, from what a pass had seen to what it has seen
--- then. F is the history that it had seen, G the one that it sees then.
+-- How a backend is loaded, brought to the log's end and enabled, from what a pass had seen to what it has seen then. F is
+-- the history that it had seen, G the one that it sees then.
 use Rattle.std.specs.Prelude.{◌≡◌, ◌⊎◌, ℕ, ◌<◌, ◌≤◌, Bool, true, false, List, [], ◌∷◌, ◌++◌, length, Contains, Result, Ok, Err}
 use Rattle.std.specs.declared.option.Option.{Option}
 use Rattle.std.specs.declared.option.Option.TheVariants.{None, Some}
 use mathlib.Core.List.{IsPrefix}
-use Rattle.cj_model.specs.Cluster.Placements.{part}
 use Rattle.cj_model.specs.Database.Storable.{IsStorable}
 use Rattle.cj_cluster.specs.declared.event.Event.{Event}
-use Rattle.cj_cluster.specs.declared.event.Event.TheVariants.{Disabled, Enabled, LogFailed, Marker}
-use Rattle.cj_cluster.specs.History.Histories.{database_after, events_left, has_marker, is_enabled, log}
-use Rattle.cj_place.specs.Layouts.{covered, Layout, placement_of}
+use Rattle.cj_cluster.specs.declared.event.Event.TheVariants.{Enabled}
+use Rattle.cj_cluster.specs.History.Histories.{database_after, events_left, is_enabled, log}
+use Rattle.cj_place.specs.Layouts.{Layout}
 use Rattle.cj_board.specs.declared.view.SeatView.{SeatView}
 use Rattle.cj_dump.specs.declared.dump.Dump.{Dump}
 use Rattle.cj_dump.specs.Coverage.{HasCoveredTables, lacks}
 use Rattle.cj_locked_cell.specs.Asking.{NotesFault}
-use Rattle.cj_locked.specs.Dumping.{CanSpare, IsLastHostOf}
-use Rattle.cj_locked.specs.declared.dump.DumpRefusal.{DumpRefusal}
-use Rattle.cj_locked.specs.declared.dump.DumpRefusal.TheVariants as refusals
-use Rattle.cj_control.specs.declared.restore.RestoreError.{RestoreError}
-use Rattle.cj_control.specs.declared.restore.RestoreError.TheVariants as errors
+use Rattle.cj_locks.specs.declared.restore.RestoreError.{RestoreError}
+use Rattle.cj_locks.specs.declared.restore.RestoreError.TheVariants as errors
 
 -- backend b was enabled, or was not, at a history between F and G
 abbrev pub WasEnabled : List Event → List Event → ℕ → Bool → Type 0
 WasEnabled F G b on = (m : List Event) × IsPrefix F m × IsPrefix m G × (is_enabled m b ≡ on)
-
--- ---- a dump
-
--- a dump of backend b at the end of history m, as the placement has it: its part of the one database there, if
--- backends tell what they hold
-pub record IsDumpOf (tells : Bool) (l : Layout) (m : List Event) (name : List ℕ) (b : ℕ) (d : Dump) : Type 0 where
-  pub position : d.position ≡ length (log m)
-  pub source : d.source ≡ b
-  pub named : d.name ≡ name
-  pub all : d.all ≡ l.full
-  pub covers : d.covers ≡ covered l b
-  pub db : tells ≡ true → d.db ≡ part (placement_of l) b (database_after (log m) (length (log m)))
-  pub storable : IsStorable d.db
-
--- since F, the marker of the dump came at history m, and backend b was disabled behind it, while each of its tables had
--- another enabled host
-pub record MarksDump (l : Layout) (F G : List Event) (name : List ℕ) (b : ℕ) : Type 0 where
-  pub m : List Event
-  pub longer : IsPrefix F m
-  pub fresh : has_marker m name ≡ false
-  pub spare : CanSpare l m b
-  pub seen : IsPrefix (m ++ Marker name (Some b) ∷ Disabled b ∷ []) G
-
--- what is read where no dump was begun
-abbrev pub refusal_of : DumpRefusal → RestoreError
-refusal_of refusals.NotEnabled = errors.NotEnabled
-refusal_of refusals.NameTaken = errors.NameTaken
-refusal_of (refusals.LastHost table) = errors.LastHost table
-refusal_of (refusals.HistoryFull n) = errors.HistoryFull n
-refusal_of refusals.NoMemory = errors.NoMemory
-
--- what backend b held at position n was read as a dump of it, or why not
-abbrev pub ReadsDump : Bool → Layout → List ℕ → ℕ → ℕ → SeatView → SeatView → Result Dump RestoreError → Type 0
-ReadsDump tells l name b n old new (Ok d) = (m : List Event) → IsPrefix m new.front → n ≡ length (log m) → IsDumpOf tells l m name b d
-ReadsDump tells l name b n old new (Err (errors.Fault k)) = (k ≡ b) × NotesFault b old new
-ReadsDump tells l name b n old new (Err errors.NoMemory) = Unit {0}
-ReadsDump tells l name b n old new (Err _) = ⊥
-
--- the dump was taken, or why it was not; the first reason that holds is given. After a fault of the backend, and after
--- want of memory where the marker came, it is disabled.
-abbrev pub Dumps : Bool → Layout → ℕ → List ℕ → SeatView → SeatView → Result Dump RestoreError → Type 0
-Dumps tells l b name old new (Ok d) = (marks : MarksDump l old.front new.front name b) × IsDumpOf tells l marks.m name b d
-Dumps tells l b name old new (Err errors.NotEnabled) = IsPrefix old.front new.front × (is_enabled new.front b ≡ false)
-Dumps tells l b name old new (Err errors.NameTaken) = (is_enabled new.front b ≡ true) × (has_marker new.front name ≡ true)
-Dumps tells l b name old new (Err (errors.LastHost table)) = (has_marker new.front name ≡ false) × IsLastHostOf l new.front b table
-Dumps tells l b name old new (Err (errors.HistoryFull n)) = (n ≡ length new.front) × (events_left new.front < 2)
-Dumps tells l b name old new (Err errors.LogFault) = (m : List Event) × IsPrefix old.front m × (new.front ≡ m ++ LogFailed 0 0 ∷ [])
-Dumps tells l b name old new (Err (errors.Fault k)) = (k ≡ b) × MarksDump l old.front new.front name b × NotesFault b old new
-Dumps tells l b name old new (Err errors.NoMemory) = Unit {0}
-Dumps tells l b name old new (Err _) = ⊥
 
 -- ---- a load
 

@@ -1,0 +1,146 @@
+-- A dump that is begun, finished and read.
+use Rattle.std.proofs.Common.{◌≡◌, ◌≢◌, ℕ, ◌<◌, Bool, true, false, List, [], ◌∷◌, ◌++◌, length, Option, Some, Result, Ok, Err, refl, ap, sym, ◌∙◌, subst, arith, append_assoc}
+use Rattle.std.proofs.lemmas.Bool.{both_ways}
+use mathlib.Core.List.{IsPrefix}
+use Rattle.cj_model.specs.declared.limits.TheConstants.{BACKEND_LIMIT}
+use Rattle.cj_cluster.specs.declared.event.Event.{Event}
+use Rattle.cj_cluster.specs.declared.event.Event.TheVariants.{Disabled, Marker}
+use Rattle.cj_cluster.specs.History.Histories.{events_left, is_enabled}
+use Rattle.cj_cluster.proofs.Pushed.{enabled-push, prefix_trans}
+use Rattle.cj_place.specs.Layouts.{Layout}
+use Rattle.cj_board.specs.declared.view.SeatView.{SeatView}
+use Rattle.cj_book.specs.declared.error.BookError.{BookError}
+use Rattle.cj_book.specs.declared.error.BookError.TheVariants as book_errors
+use Rattle.cj_dump.specs.declared.dump.Dump.{Dump}
+use Rattle.cj_pass.specs.Passes.{HasNotedMore}
+use Rattle.cj_pass.proofs.Passes.{noted_self}
+use Rattle.cj_locked_cell.proofs.Asking.{fault_between}
+use Rattle.cj_locked.specs.Auditing.{IsHeldOver}
+use Rattle.cj_locked.specs.Changes.{BringsAt}
+use Rattle.cj_locked.specs.Marking.{MarksSince}
+use Rattle.cj_locks.specs.Dumping.{CanSpare, Dumps, DumpsSince, MarksDump, ReadsDump, RefusesDump}
+use Rattle.cj_locks.specs.declared.restore.RestoreError.{RestoreError}
+use Rattle.cj_locks.specs.declared.restore.RestoreError.TheVariants as errors
+
+-- a backend's number is none that a marker can't have
+pub can_name : (b : ℕ) → b < BACKEND_LIMIT → Some b ≢ Some 255
+can_name b few same = let is : b ≡ 255 = cc same in absurd (omega (arith, few, is))
+
+-- ---- its marker
+
+-- none came
+pub unmarked : (F G : List Event) (name : List ℕ) (b : ℕ) (error : BookError) → MarksSince F G name (Some b) (Err error) → DumpsSince F G name b (Err error)
+unmarked F G name b (book_errors.InProgress n) since = absurd since.at
+unmarked F G name b book_errors.NoBackend since = absurd since.at
+unmarked F G name b (book_errors.HistoryFull n) since = absurd since.at
+unmarked F G name b book_errors.LogFault since = record { m = since.m; over = since.over; at = since.at }
+unmarked F G name b book_errors.NoMemory since = record { m = since.m; over = since.over; at = since.at }
+
+-- it came, which gave H
+module _ (F H G : List Event) (name : List ℕ) (b n : ℕ) (since : MarksSince F H name (Some b) (Ok n)) where
+  -- there was no room to disable the backend
+  pub not_disabled : (error : BookError) → BringsAt H (Disabled b) (is_enabled H b) (Err error) G → DumpsSince F G name b (Err error)
+  not_disabled (book_errors.InProgress k) at = absurd at
+  not_disabled book_errors.NoBackend at = absurd at
+  not_disabled (book_errors.HistoryFull k) at = record { m = since.m; over = since.over; at = (at.3 ∙ since.at.2, at.2 ∙ ap length (sym at.3), subst (λ (x : List Event). events_left x < 1) (sym at.3) at.1) }
+  not_disabled book_errors.LogFault at = absurd at
+  not_disabled book_errors.NoMemory at = absurd at
+
+  -- the backend was enabled, and is disabled
+  pub dumped : is_enabled F b ≡ true → (done : Bool) → BringsAt H (Disabled b) (is_enabled H b) (Ok done) G → DumpsSince F G name b (Ok n)
+  dumped was true at = record {
+    m = since.m;
+    over = since.over;
+    at = (since.at.0, since.at.1, since.over.enabled b ∙ was, at.2 ∙ (ap (λ (x : List Event). x ++ Disabled b ∷ []) since.at.2 ∙ append_assoc since.m (Marker name (Some b) ∷ []) (Disabled b ∷ [])));
+  }
+  dumped was false at = absurd
+      (both_ways (is_enabled H b) at.0 (ap (λ (x : List Event). is_enabled x b) since.at.2 ∙ (enabled-push since.m (Marker name (Some b)) b ∙ (since.over.enabled b ∙ was))))
+
+-- ---- what it comes to
+
+-- none was begun
+pub dump_refused : (tells : Bool) (l : Layout) (b : ℕ) (name : List ℕ) (u v : SeatView) → IsPrefix u.front v.front → (error : RestoreError) → RefusesDump l v.front b name error → Dumps tells l b name u v (Err error)
+dump_refused tells l b name u v longer errors.NotEnabled why = (longer, why)
+dump_refused tells l b name u v longer errors.NameTaken why = why
+dump_refused tells l b name u v longer (errors.LastHost table) why = (why.1, why.2)
+dump_refused tells l b name u v longer (errors.HistoryFull n) why = (why.2, why.3)
+dump_refused tells l b name u v longer errors.NoMemory why = tt
+dump_refused tells l b name u v longer errors.AlreadyEnabled why = absurd why
+dump_refused tells l b name u v longer errors.LogFault why = absurd why
+dump_refused tells l b name u v longer (errors.Fault k) why = absurd why
+dump_refused tells l b name u v longer errors.Starved why = absurd why
+dump_refused tells l b name u v longer (errors.Out seen) why = absurd why
+dump_refused tells l b name u v longer errors.NotOut why = absurd why
+dump_refused tells l b name u v longer (errors.DumpLacks table) why = absurd why
+dump_refused tells l b name u v longer (errors.DumpAhead n) why = absurd why
+
+-- while the turn was held the same backends were enabled
+spare_over : (l : Layout) (F m : List Event) (b : ℕ) → IsHeldOver F m → CanSpare l F b → CanSpare l m b
+spare_over l F m b over spare = record { enabled = over.enabled b ∙ spare.enabled; mask = spare.mask; is = λ c. spare.is c ∙ sym (over.enabled c); spare = spare.spare }
+
+-- the dump was begun where a pass had seen F, and finished where it had seen H
+module _ (tells : Bool) (l : Layout) (b : ℕ) (name : List ℕ) (u v : SeatView) (spare : CanSpare l u.front b) where
+  dump_marks : (n : ℕ) → DumpsSince u.front v.front name b (Ok n) → (w : SeatView) → IsPrefix v.front w.front → MarksDump l u.front w.front name b
+  dump_marks n since w longer = record {
+    m = since.m;
+    longer = since.over.longer;
+    fresh = since.at.1;
+    spare = spare_over l u.front since.m b since.over spare;
+    seen = subst (λ (x : List Event). IsPrefix x w.front) since.at.3 longer;
+  }
+
+  -- the backend was asked for what it holds
+  pub dump_read : (n : ℕ) → DumpsSince u.front v.front name b (Ok n) → HasNotedMore u v → (w : SeatView) → HasNotedMore v w → (r : Result Dump RestoreError) → ReadsDump tells l name b n v w r → Dumps tells l b name u w r
+  dump_read n since before w more r reads = by r reads
+    where
+      marks : MarksDump l u.front w.front name b
+      marks = dump_marks n since w more.seen.front
+
+      behind : IsPrefix since.m w.front
+      behind = prefix_trans since.m (since.m ++ Marker name (Some b) ∷ Disabled b ∷ []) w.front (Marker name (Some b) ∷ Disabled b ∷ [], refl) marks.seen
+
+      by : (q : Result Dump RestoreError) → ReadsDump tells l name b n v w q → Dumps tells l b name u w q
+      by (Ok d) is = (marks, is since.m behind since.at.0)
+      by (Err (errors.Fault k)) is = (is.0, marks, fault_between b u v w w before (noted_self w) is.1)
+      by (Err errors.NoMemory) is = tt
+      by (Err errors.NotEnabled) is = absurd is
+      by (Err errors.AlreadyEnabled) is = absurd is
+      by (Err errors.NameTaken) is = absurd is
+      by (Err (errors.LastHost table)) is = absurd is
+      by (Err (errors.HistoryFull k)) is = absurd is
+      by (Err errors.LogFault) is = absurd is
+      by (Err errors.Starved) is = absurd is
+      by (Err (errors.Out seen)) is = absurd is
+      by (Err errors.NotOut) is = absurd is
+      by (Err (errors.DumpLacks table)) is = absurd is
+      by (Err (errors.DumpAhead k)) is = absurd is
+
+-- failures in queries had taken the room of the second event
+pub dump_full : (tells : Bool) (l : Layout) (b : ℕ) (name : List ℕ) (u v : SeatView) (n : ℕ) → DumpsSince u.front v.front name b (Err (book_errors.HistoryFull n)) → Dumps tells l b name u v (Err (errors.HistoryFull n))
+dump_full tells l b name u v n since = let none : events_left v.front < 1 = since.at.2 in (since.at.1, omega (arith, none))
+
+pub dump_faulted : (tells : Bool) (l : Layout) (b : ℕ) (name : List ℕ) (u v : SeatView) → DumpsSince u.front v.front name b (Err book_errors.LogFault) → Dumps tells l b name u v (Err errors.LogFault)
+dump_faulted tells l b name u v since = (since.m, since.over.longer, since.at)
+
+-- a pass had seen less before
+pub dumps_earlier : (tells : Bool) (l : Layout) (b : ℕ) (name : List ℕ) (u v w : SeatView) → HasNotedMore u v → (r : Result Dump RestoreError) → Dumps tells l b name v w r → Dumps tells l b name u w r
+dumps_earlier tells l b name u v w more r dumps = by r dumps
+  where
+    marks_earlier : MarksDump l v.front w.front name b → MarksDump l u.front w.front name b
+    marks_earlier marks = record { m = marks.m; longer = prefix_trans u.front v.front marks.m more.seen.front marks.longer; fresh = marks.fresh; spare = marks.spare; seen = marks.seen }
+
+    by : (q : Result Dump RestoreError) → Dumps tells l b name v w q → Dumps tells l b name u w q
+    by (Ok d) is = (marks_earlier is.0, is.1)
+    by (Err errors.NotEnabled) is = (prefix_trans u.front v.front w.front more.seen.front is.0, is.1)
+    by (Err errors.NameTaken) is = is
+    by (Err (errors.LastHost table)) is = is
+    by (Err (errors.HistoryFull k)) is = is
+    by (Err errors.LogFault) is = (is.0, prefix_trans u.front v.front is.0 more.seen.front is.1, is.2)
+    by (Err (errors.Fault k)) is = (is.0, marks_earlier is.1, fault_between b u v w w more (noted_self w) is.2)
+    by (Err errors.NoMemory) is = tt
+    by (Err errors.AlreadyEnabled) is = absurd is
+    by (Err errors.Starved) is = absurd is
+    by (Err (errors.Out seen)) is = absurd is
+    by (Err errors.NotOut) is = absurd is
+    by (Err (errors.DumpLacks table)) is = absurd is
+    by (Err (errors.DumpAhead k)) is = absurd is
