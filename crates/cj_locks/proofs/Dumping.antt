@@ -26,10 +26,6 @@ use Rattle.cj_locks.specs.Dumping.{CanSpare, Dumps, DumpsSince, MarksDump, Reads
 use Rattle.cj_locks.specs.declared.restore.RestoreError.{RestoreError}
 use Rattle.cj_locks.specs.declared.restore.RestoreError.TheVariants as errors
 
--- a backend's number is none that a marker can't have
-pub can_name : (b : ℕ) → b < BACKEND_LIMIT → Some b ≢ Some 255
-can_name b few same = let is : b ≡ 255 = cc same in absurd (omega (arith, few, is))
-
 -- ---- its marker
 
 -- a pass had seen less before

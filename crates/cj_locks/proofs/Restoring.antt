@@ -158,14 +158,6 @@ module _ (b : ℕ) where
 
   -- ---- enabling
 
-  pub enabled_now : (n : ℕ) (u z : SeatView) → BringsSince u.front z.front (Enabled b) (λ h. not (is_enabled h b) && (length (log h) == n)) (Ok true) → Enables b u z (Ok n)
-  enabled_now n u z since =
-      let both = and_parts (not (is_enabled since.m b)) (length (log since.m) == n) since.at.0 in
-      (since.m, since.longer, not-true (is_enabled since.m b) both.0, sym (eqb-true (length (log since.m)) n both.1), since.at.2)
-
-  pub enabling_full : (n k : ℕ) (u z : SeatView) → BringsSince u.front z.front (Enabled b) (λ h. not (is_enabled h b) && (length (log h) == n)) (Err (book_errors.HistoryFull k)) → Enables b u z (Err (errors.HistoryFull k))
-  enabling_full n k u z since = (since.at.2 ∙ ap length (sym since.at.3), subst (λ (x : List Event). events_left x < 1) (sym since.at.3) since.at.1)
-
   -- a pass had seen less before
   pub enables_earlier : (u w z : SeatView) → HasNotedMore u w → (r : Result ℕ RestoreError) → Enables b w z r → Enables b u z r
   enables_earlier u w z more r enables = by r enables
