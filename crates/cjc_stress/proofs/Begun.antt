@@ -1,5 +1,5 @@
 -- The transaction of a session that has begun one.
-use Rattle.std.proofs.Common.{◌≡◌, ◌<◌, ℕ, zero, suc, refl, absurd, arith}
+use Rattle.std.proofs.Common.{◌≡◌, ◌<◌, ℕ, zero, suc, refl, arith}
 use Rattle.cj_model.specs.declared.request.Act.TheVariants as act
 use Rattle.cj_desk.specs.DeskStates.{tx_after_write}
 
