@@ -1,19 +1,82 @@
 -- What of a cluster may go to another thread.
 use denote.RattleType.{RattleType}
-use denote.Param.Send.{IsSend, IsSync, sendable}
+use denote.Param.Send.{IsSend, IsSync, sendable, recorded_sync, struct_sync, plain_sync}
 use Rattle.std.proofs.Crossing.{crosses}
 use Rattle.atomic_table.proofs.shared.Seat.TheSendSync as seat
 use Rattle.atomic_table.proofs.shared.Shared.TheSendSync as shared
 use Rattle.atomic_table.proofs.owned.Table.TheSendSync as table
 use Rattle.atomic_table.proofs.send_lease.SendLease.TheSendSync as lease
 use Rattle.cj_model.proofs.condition.CondNode.TheLaws.TheKnot as knot
+use Rattle.cj_model.specs.contracts.request.Entry as Entry
+use Rattle.cj_model.specs.contracts.select.Select as Select
+use Rattle.cj_cluster.specs.contracts.event.Event as Event
+use Rattle.cj_cluster.specs.contracts.boxed.BoxedEntry as BoxedEntry
 use Rattle.cj_board.specs.contracts.seats.Pass as Pass
 use Rattle.cj_board.specs.contracts.seats.Board as Board
+use Rattle.cj_board.specs.contracts.seats.BookSeat as BookSeat
+use Rattle.cj_board.specs.contracts.seats.CellSeat as CellSeat
+use Rattle.cj_cache.specs.contracts.cache.Cache as Cache
+use Rattle.cj_book.specs.contracts.book.Book as Book
 
-pub ruleset together = (sendable, crosses, knot.crosses, seat.the_send, shared.the_send, shared.the_sync, table.the_send, table.the_sync, lease.the_send, lease.the_sync)
+use Rattle.lru.proofs.cache.LruCache.TheSendSync as lru
+use Rattle.cj_cache.proofs.held.Held.TheSendSync as held
+use Rattle.cj_cache.specs.contracts.held.Held as Held
+use Rattle.cj_place.proofs.placement.Placement.TheSendSync as placement
+use Rattle.cj_balance.proofs.balancer.Balancer.TheSendSync as balancer
+use Rattle.cj_transactions.proofs.sessions.BookSessions.TheSendSync as sessions
+use Rattle.cj_transactions.proofs.transactions.OpenTransactions.TheSendSync as transactions
+use Rattle.cj_log.proofs.item.LogMarker.TheSendSync as marker
+use Rattle.cj_book.proofs.pending.Pending.TheSendSync as pending
+
+ruleset nodes = (sendable, crosses, knot.crosses)
+
+pub event_send : IsSend Event.the_row
+event_send = search nodes depth 60 fits 100000
+
+pub entry_send : IsSend Entry.the_row
+entry_send = search nodes depth 60 fits 100000
+
+pub boxed_send : IsSend BoxedEntry.the_row
+boxed_send = search nodes depth 60 fits 100000
+
+pub select_send : IsSend Select.the_row
+select_send = search nodes depth 60 fits 100000
+
+pub select_sync : IsSync Select.the_row
+select_sync = search nodes depth 60 fits 100000
+
+ruleset seats = (sendable, seat.the_send, event_send)
 
 pub pass_send : IsSend Pass.the_row
-pass_send = search together depth 60 fits 100000
+pass_send = search seats depth 30 fits 10000
+
+pub book_seat_send : IsSend BookSeat.the_row
+book_seat_send = search seats depth 30 fits 10000
+
+pub cell_seat_send : IsSend CellSeat.the_row
+cell_seat_send = search seats depth 30 fits 10000
+
+ruleset boards = (sendable, crosses, table.the_sync, shared.the_sync, lease.the_sync, event_send)
 
 pub board_sync : IsSync Board.the_row
-board_sync = search together depth 60 fits 100000
+board_sync = search boards depth 40 fits 10000
+
+ruleset boards2 = (recorded_sync, struct_sync, plain_sync, tt, table.the_sync, event_send, crosses)
+
+pub board_sync2 : IsSync Board.the_row
+board_sync2 = search boards2 depth 40 fits 10000
+
+ruleset answers = (sendable, crosses)
+
+pub held_send : IsSend Held.the_row
+held_send = held.the_send
+
+ruleset caches = (sendable, crosses, select_send, select_sync, lru.the_send, held_send)
+
+pub cache_send : IsSend Cache.the_row
+cache_send = search caches depth 40 fits 100000
+
+ruleset books = (sendable, crosses, boxed_send, book_seat_send, cache_send, placement.the_send, balancer.the_send, sessions.the_send, transactions.the_send, marker.the_send, pending.the_send)
+
+pub book_send : IsSend Book.the_row
+book_send = search books depth 40 fits 100000

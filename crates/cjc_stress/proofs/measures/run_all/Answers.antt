@@ -1,11 +1,12 @@
 use denote.Param.Send.{sendable, IsSend, IsSync, param_send, param_sync}
-use Rattle.cjc_stress.proofs.Crossing.{pass_send, board_sync, together}
+use Rattle.std.proofs.Crossing.{crosses}
+use Rattle.cjc_stress.proofs.Crossing.{pass_send, book_send, board_sync2}
 use Rattle.cjc_stress.proofs.measures.run_all.Goals as goal
 
-ruleset here = (together, pass_send, board_sync)
+ruleset jobs = (sendable, crosses, pass_send)
 
 pub map_vec-requires-send-J : goal.map_vec-requires-send-J
-map_vec-requires-send-J g c κs within = let s = c.type_bounds.send-J in param_send 1 _ (search here depth 60 fits 100000)
+map_vec-requires-send-J g c κs within = search (jobs, c.type_bounds.send-J) depth 40 fits 10000
 
 pub map_vec-requires-sync-F : goal.map_vec-requires-sync-F
-map_vec-requires-sync-F g c κs within = param_sync 4 _ ?
+map_vec-requires-sync-F g c κs within = ?
