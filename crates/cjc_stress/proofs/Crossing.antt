@@ -1,6 +1,6 @@
 -- What of a cluster may go to another thread.
 use denote.RattleType.{RattleType}
-use denote.Param.Send.{IsSend, IsSync, sendable, recorded_sync, struct_sync, plain_sync}
+use denote.Param.Send.{IsSend, IsSync, sendable}
 use Rattle.std.proofs.Crossing.{crosses}
 use Rattle.atomic_table.proofs.shared.Seat.TheSendSync as seat
 use Rattle.atomic_table.proofs.shared.Shared.TheSendSync as shared
@@ -15,18 +15,9 @@ use Rattle.cj_board.specs.contracts.seats.Pass as Pass
 use Rattle.cj_board.specs.contracts.seats.Board as Board
 use Rattle.cj_board.specs.contracts.seats.BookSeat as BookSeat
 use Rattle.cj_board.specs.contracts.seats.CellSeat as CellSeat
-use Rattle.cj_cache.specs.contracts.cache.Cache as Cache
-use Rattle.cj_book.specs.contracts.book.Book as Book
 
-use Rattle.lru.proofs.cache.LruCache.TheSendSync as lru
 use Rattle.cj_cache.proofs.held.Held.TheSendSync as held
 use Rattle.cj_cache.specs.contracts.held.Held as Held
-use Rattle.cj_place.proofs.placement.Placement.TheSendSync as placement
-use Rattle.cj_balance.proofs.balancer.Balancer.TheSendSync as balancer
-use Rattle.cj_transactions.proofs.sessions.BookSessions.TheSendSync as sessions
-use Rattle.cj_transactions.proofs.transactions.OpenTransactions.TheSendSync as transactions
-use Rattle.cj_log.proofs.item.LogMarker.TheSendSync as marker
-use Rattle.cj_book.proofs.pending.Pending.TheSendSync as pending
 
 ruleset nodes = (sendable, crosses, knot.crosses)
 
@@ -61,22 +52,8 @@ ruleset boards = (sendable, crosses, table.the_sync, shared.the_sync, lease.the_
 pub board_sync : IsSync Board.the_row
 board_sync = search boards depth 40 fits 10000
 
-ruleset boards2 = (recorded_sync, struct_sync, plain_sync, tt, table.the_sync, event_send, crosses)
-
-pub board_sync2 : IsSync Board.the_row
-board_sync2 = search boards2 depth 40 fits 10000
-
-ruleset answers = (sendable, crosses)
-
 pub held_send : IsSend Held.the_row
 held_send = held.the_send
 
-ruleset caches = (sendable, crosses, select_send, select_sync, lru.the_send, held_send)
-
-pub cache_send : IsSend Cache.the_row
-cache_send = search caches depth 40 fits 100000
-
-ruleset books = (sendable, crosses, boxed_send, book_seat_send, cache_send, placement.the_send, balancer.the_send, sessions.the_send, transactions.the_send, marker.the_send, pending.the_send)
-
-pub book_send : IsSend Book.the_row
-book_send = search books depth 40 fits 100000
+-- Open: that a `Cache` and a `Book` are Send, and so a `Control` Sync. `search` finds neither so far: the cache has an
+-- `LruCache`, and a `HashMap` of `IndexSet`s.
