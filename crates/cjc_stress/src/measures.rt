@@ -254,6 +254,7 @@ fn run_alone<S: Store + Drop, R: Clock>(
     let writes = measure.kind == Kind::WritesAlone;
     let mut sent = rows(alloc).ok()?;
     append_requests(alloc, &mut sent, writes, measure.requests, 0).ok()?;
+    world.legal();
     let Ok(mut desk) = world.desk() else {
         return None;
     };
