@@ -15,7 +15,6 @@ use Rattle.cj_board.specs.contracts.seats.Pass as Pass
 use Rattle.cj_board.specs.contracts.seats.Board as Board
 use Rattle.cj_board.specs.contracts.seats.BookSeat as BookSeat
 use Rattle.cj_board.specs.contracts.seats.CellSeat as CellSeat
-
 use Rattle.cj_cache.proofs.held.Held.TheSendSync as held
 use Rattle.cj_cache.specs.contracts.held.Held as Held
 

@@ -242,10 +242,10 @@ fn run_all<
 }
 
 /// Serves one session at a desk that shares nothing, which makes the rows first.
-fn run_alone<S: Store + Drop, R: Clock>(
+fn run_alone<B: Backend + Drop, S: Store + Drop, R: Clock>(
     rt: &R,
     alloc: Global,
-    world: World<MemBackend, S>,
+    world: World<B, S>,
     measure: Measure,
 ) -> Option<Lines>
     requires fresh { world.core.sessions ≡ [] }
