@@ -1,23 +1,23 @@
 //! Clusters over two backends that have every table: how they start, and are given up.
 
 ghost use Rattle.std.specs.Prelude.{◌≡◌, ◌≤◌, true, [], length, vec_capacity, IfOk, Some};
-ghost use Rattle.cj_model.specs.declared.limits.TheConstants.{BACKEND_LIMIT};
+ghost use Rattle.cj_model.specs.declared.limits.TheConstants.{BACKEND_LIMIT, USER_LIMIT};
 ghost use Rattle.cj_model.specs.Cluster.Caching.{empty_cache};
 ghost use Rattle.cj_outside.specs.Memory.{State};
-ghost use Rattle.cj_conf.specs.Confs.{IsUsable};
 ghost use Rattle.cj_board.specs.Seats.{board_id, pass_board};
 ghost use Rattle.cj_control.specs.Starting.{AreOfStarted};
 
 use crate::steps::{Step, take};
+use cj_auth::Accounts;
 use cj_backend::Backend;
 use cj_balance::Balancer;
 use cj_book::BookParts;
 use cj_cache::Cache;
-use cj_conf::{Conf, read_conf};
 use cj_control::{Control, Naming, Pass};
 use cj_core::{Backends, Parts, Shared, World};
-use cj_model::{ListOf, NoMemory};
+use cj_model::{Account, BACKEND_LIMIT, Level, ListOf, Name, NoMemory, Policy, Text, USER_LIMIT};
 use cj_outside::MemStore;
+use cj_place::Placement;
 use std::alloc::Global;
 use std::marker::Brand;
 use std::process::Abort;
@@ -25,45 +25,75 @@ use std::sync::Wait;
 use std::sync::ledger::Blank;
 use std::thread::Threads;
 
-/// Two backends in memory that each have every table, read in turn, and one user.
-const CONF: &str = r#"level = "raidb1"
-cache = 64
-backends = [{ name = "b0", kind = "memory" }, { name = "b1", kind = "memory" }]
-users = [{ name = "ann", sha256 = "2bb80d537b1da3e38bd30361aa855686bde0eacd7162fef6a25fe97bf527a25b", logins = ["l0", "l1"] }]
-"#;
+/// The digest of the password `secret`.
+const SECRET: &[u8] = b"2bb80d537b1da3e38bd30361aa855686bde0eacd7162fef6a25fe97bf527a25b";
 
-/// The configuration of a text. In a function with the text itself, the search would compute what it gives.
-fn conf_of(rt: &impl Abort, alloc: Global, text: &str) -> Conf
-    ensures { IsUsable result }
-{
-    match read_conf(alloc, text.as_bytes()) {
-        Ok(conf) => conf,
-        Err(_) => panic!(rt; "the configuration is refused"),
+/// The text of these bytes.
+fn text(rt: &impl Abort, alloc: Global, bytes: &[u8]) -> Result<Text, NoMemory> {
+    match Text::of(bytes.to_vec(alloc)?) {
+        Some(text) => Ok(text),
+        None => panic!(rt; "no text"),
     }
 }
 
-/// What the configuration makes of a world.
+/// The name of these bytes.
+fn name(rt: &impl Abort, bytes: &[u8]) -> Name {
+    match Name::of(bytes) {
+        Some(name) => name,
+        None => panic!(rt; "no name"),
+    }
+}
+
+/// The account of `ann`, whose password is `secret`.
+fn account(rt: &impl Abort, alloc: Global) -> Result<Account, NoMemory>
+    ensures { IfOk result (λ account. length account.user ≤ USER_LIMIT) }
+{
+    let user = text(rt, alloc, b"ann")?;
+    assert!(rt; user.len() <= USER_LIMIT);
+    let logins = [text(rt, alloc, b"l0")?, text(rt, alloc, b"l1")?];
+    Ok(Account {
+        user,
+        digest: text(rt, alloc, SECRET)?,
+        logins: ListOf::from_vec(Vec::from_array(alloc, logins)?),
+    })
+}
+
+/// The accounts at two backends.
+fn accounts(rt: &impl Abort, alloc: Global) -> Result<Accounts, NoMemory>
+    ensures { IfOk result (λ accounts. accounts.backends ≡ 2) }
+{
+    let rows = Vec::from_array(alloc, [account(rt, alloc)?])?;
+    match Accounts::new(alloc, ListOf::from_vec(rows), 2) {
+        Ok(accounts) => Ok(accounts),
+        Err(_) => panic!(rt; "the accounts are refused"),
+    }
+}
+
+/// Two backends, each of which has every table.
+fn placement(rt: &impl Abort, alloc: Global) -> Result<Placement, NoMemory>
+    ensures { IfOk result (λ placement. length placement.names ≡ 2) }
+{
+    let names = ListOf::from_vec(Vec::from_array(alloc, [name(rt, b"b0"), name(rt, b"b1")])?);
+    let Ok(placement) = Placement::new(alloc, Level::Raidb1, names, ListOf::new(alloc)) else {
+        panic!(rt; "the placement is refused")
+    };
+    assert!(rt; placement.count() == 2);
+    Ok(placement)
+}
+
+/// What the tests make of a world: reads go to the backends in turn, and the result cache keeps 64 answers.
 fn parts(rt: &impl Abort, alloc: Global) -> Result<Parts, NoMemory>
     ensures two { IfOk result (λ parts. length parts.book.placement.names ≡ 2) }
     ensures registered { IfOk result (λ parts. parts.accounts.backends ≡ length parts.book.placement.names) }
     ensures cache { IfOk result (λ parts. parts.book.cache ≡ empty_cache parts.book.cache.capacity) }
 {
-    let Conf {
-        placement,
-        accounts,
-        policy,
-        weights,
-        cache,
-        ..
-    } = conf_of(rt, alloc, CONF);
-    assert!(rt; placement.count() == 2);
     Ok(Parts {
         book: BookParts {
-            placement,
-            balancer: Balancer::new(policy, weights),
-            cache: Cache::new(alloc, cache)?,
+            placement: placement(rt, alloc)?,
+            balancer: Balancer::new(Policy::RoundRobin, [1; BACKEND_LIMIT as usize]),
+            cache: Cache::new(alloc, 64)?,
         },
-        accounts,
+        accounts: accounts(rt, alloc)?,
     })
 }
 
