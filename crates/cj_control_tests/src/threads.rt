@@ -1,0 +1,130 @@
+//! Sessions in two threads: each reads what it wrote, and reads are answered at the same time.
+
+use crate::clusters::play;
+use crate::frames::Sent::Query;
+use crate::frames::{DONE_0, DONE_1, DONE_2, Talk};
+use crate::steps::Step;
+use cj_flaky::{Gate, Gated};
+use cj_mem::MemBackend;
+use std::alloc::Global;
+use std::sync::Arc;
+use std::sync::atomic::{AtomicU64, Ordering};
+use std::test::Fail;
+
+/// 1 in column k.
+const K_1: &[u8] = b"\x00\x00\x00\x13\x82\x00\x01\x00\x01k\x00\x00\x00\x01\
+\x01\x00\x00\x00\x00\x00\x00\x00\x01";
+
+/// 2 in column k.
+const K_2: &[u8] = b"\x00\x00\x00\x13\x82\x00\x01\x00\x01k\x00\x00\x00\x01\
+\x01\x00\x00\x00\x00\x00\x00\x00\x02";
+
+/// 1 and 2 in column k.
+const K_1_2: &[u8] = b"\x00\x00\x00\x1c\x82\x00\x01\x00\x01k\x00\x00\x00\x02\
+\x01\x00\x00\x00\x00\x00\x00\x00\x01\x01\x00\x00\x00\x00\x00\x00\x00\x02";
+
+const CREATE: &str = "CREATE TABLE t (k INTEGER PRIMARY KEY)";
+
+/// Each session reads at one backend and then at the other, since no text was asked before.
+#[test]
+fn each_session_reads_what_it_wrote(rt: HostRuntime) -> Result<(), Fail> {
+    let alloc = rt.alloc();
+    let (one, other) = (MemBackend::new(alloc), MemBackend::new(alloc));
+    let first = Talk {
+        sent: &[Query(CREATE)],
+        replies: &[DONE_0],
+    };
+    let left = Talk {
+        sent: &[
+            Query("INSERT INTO t VALUES (1)"),
+            Query("SELECT k FROM t WHERE k = 1"),
+            Query("SELECT k FROM t WHERE k = 1 LIMIT 1"),
+        ],
+        replies: &[DONE_1, K_1, K_1],
+    };
+    let right = Talk {
+        sent: &[
+            Query("INSERT INTO t VALUES (2)"),
+            Query("SELECT k FROM t WHERE k = 2"),
+            Query("SELECT k FROM t WHERE k = 2 LIMIT 1"),
+        ],
+        replies: &[DONE_1, K_2, K_2],
+    };
+    let last = Talk {
+        sent: &[Query("SELECT k FROM t ORDER BY k")],
+        replies: &[K_1_2],
+    };
+    let steps = [
+        Step::Session(first),
+        Step::Both(left, right),
+        Step::Session(last),
+    ];
+    let _backends = play(&rt, alloc, one, other, Vec::new(alloc), &steps)?;
+    Ok(())
+}
+
+/// So often a gate looks for the other.
+const LOOKS: u64 = 100_000_000;
+
+type Flag = Arc<AtomicU64, Global>;
+
+/// A gate that raises a flag, and then looks for that of another. Where it gives up, it says so.
+#[derive(Drop)]
+struct Meeting {
+    mine: Flag,
+    other: Flag,
+    missed: Flag,
+}
+
+impl Gate for Meeting {
+    fn pass(&mut self) {
+        self.mine.store(1, Ordering::SeqCst);
+        for _ in 0..LOOKS {
+            if self.other.load(Ordering::SeqCst) == 1 {
+                return;
+            }
+        }
+        self.missed.store(1, Ordering::SeqCst);
+    }
+}
+
+/// A backend whose reads meet those of another.
+fn meets(
+    alloc: Global,
+    mine: &Flag,
+    other: &Flag,
+    missed: &Flag,
+) -> Result<Gated<MemBackend, Meeting>, Fail> {
+    let gate = Meeting {
+        mine: Arc::try_clone(mine)?,
+        other: Arc::try_clone(other)?,
+        missed: Arc::try_clone(missed)?,
+    };
+    Ok(Gated::new(MemBackend::new(alloc), gate))
+}
+
+#[test]
+fn a_read_is_answered_while_another_is_asked(rt: HostRuntime) -> Result<(), Fail> {
+    let alloc = rt.alloc();
+    let left = Arc::new(alloc, AtomicU64::new(0))?;
+    let right = Arc::new(alloc, AtomicU64::new(0))?;
+    let missed = Arc::new(alloc, AtomicU64::new(0))?;
+    let one = meets(alloc, &left, &right, &missed)?;
+    let other = meets(alloc, &right, &left, &missed)?;
+    let first = Talk {
+        sent: &[Query(CREATE), Query("INSERT INTO t VALUES (1), (2)")],
+        replies: &[DONE_0, DONE_2],
+    };
+    let of_one = Talk {
+        sent: &[Query("SELECT k FROM t WHERE k = 1")],
+        replies: &[K_1],
+    };
+    let of_two = Talk {
+        sent: &[Query("SELECT k FROM t WHERE k = 2")],
+        replies: &[K_2],
+    };
+    let steps = [Step::Session(first), Step::Both(of_one, of_two)];
+    let _backends = play(&rt, alloc, one, other, Vec::new(alloc), &steps)?;
+    assert!(rt; missed.load(Ordering::SeqCst) == 0);
+    Ok(())
+}
