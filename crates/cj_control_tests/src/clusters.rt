@@ -68,7 +68,7 @@ fn parts(rt: &impl Abort, alloc: Global) -> Result<Parts, NoMemory>
 }
 
 /// Starts a world over two empty backends and an empty log, whose store fails at these calls, and takes it apart.
-fn started<B: Backend + Drop>(
+pub fn started<B: Backend + Drop>(
     rt: &impl Abort,
     alloc: Global,
     one: B,

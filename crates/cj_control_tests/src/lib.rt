@@ -6,7 +6,8 @@
 //! hand from docs/FORMATS.md.
 //! Some cases have no test. A caller that was left makes no call, since `leave` takes it. Neither a full history nor a
 //! cluster without session numbers can be made, as both take 2^62 calls.
-//! To change: a new call gets a step in `steps`, and its test goes into the file of its subject. Proofs are in
+//! To change: a new call gets a step in `steps`, and its test goes into the file of its subject. `restoring` has
+//! scenes of its own, since a dump is known to be right there only over backends that tell nothing. Proofs are in
 //! `proofs/clusters`; that of `play` picks the names of the cluster.
 #![tactic(auto)]
 
@@ -18,6 +19,8 @@ mod clusters;
 mod failures;
 #[cfg(test)]
 mod frames;
+#[cfg(test)]
+mod restoring;
 #[cfg(test)]
 mod sessions;
 #[cfg(test)]

@@ -47,7 +47,7 @@ pub enum Step<'a> {
 }
 
 /// Serves a session, and compares what it is sent.
-fn serve<J: Naming, B: Backend, R: Wait + Abort>(
+pub fn serve<J: Naming, B: Backend, R: Wait + Abort>(
     rt: &R,
     alloc: Global,
     control: &Control<J, B, MemStore>,
@@ -164,7 +164,7 @@ fn leave_open<J: Naming, B: Backend, R: Wait + Abort>(
 }
 
 /// The name of the checkpoint.
-fn name(rt: &impl Abort) -> Name
+pub fn name(rt: &impl Abort) -> Name
     ensures { result ≢ [] }
 {
     let Some(name) = Name::of(b"c") else {
