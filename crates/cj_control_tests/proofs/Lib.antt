@@ -1,1 +1,1 @@
-mod Restoring
+mod RightDumps

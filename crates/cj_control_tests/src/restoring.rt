@@ -178,7 +178,7 @@ fn backed_up<J: Naming + Send + Sync, R: Wait + Abort>(
 struct Out;
 
 impl<R: Wait + Abort> Scene<Untold, R> for Out {
-    #[tactic(auto, using(crate::proofs::Restoring::nothing_is_right, crate::proofs::Restoring::found_is_right))]
+    #[tactic(auto, using(crate::proofs::RightDumps::nothing_is_right, crate::proofs::RightDumps::found_is_right))]
     fn play<J: Naming + Send + Sync>(
         &self,
         rt: &R,
