@@ -151,7 +151,7 @@ fn nothing(alloc: Global, name: &Name) -> Dump
 }
 
 /// Backs backend 0 up, which comes back, and then has backend 1 miss a row.
-fn backed_up<J: Naming + Send + Sync, R: Wait + Abort>(
+fn backed_up<J: Naming, R: Wait + Abort>(
     rt: &R,
     alloc: Global,
     control: &Control<J, Untold, MemStore>,
@@ -273,7 +273,7 @@ struct Beside {
 
 impl Beside {
     /// Makes an INSERT once the backend's first write came, and tells that it was answered.
-    fn insert<J: Naming + Send + Sync, R: Wait + Abort>(
+    fn insert<J: Naming, R: Wait + Abort>(
         &self,
         rt: &R,
         alloc: Global,
