@@ -43,6 +43,7 @@ impl<J: Naming, S: Store + Drop> LockedBook<J, S> {
         ensures ok { IfOk result (λ begun. IfSome begun (λ x. BeginsMarkSince S.tells S.faults (front pass.old.seat) (front pass.new.seat) name.now b x.turn.share.amount x.turn.log x.item)) }
         ensures taken { IfOk result (λ begun. IsNone begun → (has_marker (front pass.new.seat) name.now ≡ true) × (is_none self.new.log ≡ false)) }
         ensures err { IfErr result (RefusesMark (front pass.new.seat)) }
+        ensures state { self.new.book.state ≡ self.old.book.state }
         ensures more { HasNotedMore (pass_view pass.old.seat) (pass_view pass.new.seat) }
         ensures legal { IsLegal (front pass.new.seat) }
         ensures told { front pass.new.seat ≡ self.new.book.state.history }

@@ -1,23 +1,27 @@
 -- A dump that is begun, finished and read.
-use Rattle.std.proofs.Common.{◌≡◌, ◌≢◌, ℕ, ◌<◌, Bool, true, false, List, [], ◌∷◌, ◌++◌, length, Option, Some, Result, Ok, Err, refl, ap, sym, ◌∙◌, subst, arith, append_assoc}
+use Rattle.std.proofs.Common.{◌≡◌, ◌≢◌, ℕ, ◌<◌, ◌≤◌, Bool, true, false, List, [], ◌∷◌, ◌++◌, length, Option, Some, Result, Ok, Err, refl, ap, sym, ◌∙◌, subst, arith, append_assoc}
 use Rattle.std.proofs.lemmas.Bool.{both_ways}
 use mathlib.Core.List.{IsPrefix}
+use Rattle.cj_model.specs.declared.database.Slot.{Slot}
 use Rattle.cj_model.specs.declared.limits.TheConstants.{BACKEND_LIMIT}
+use Rattle.cj_model.specs.Cluster.Placements.{Placement, part}
 use Rattle.cj_cluster.specs.declared.event.Event.{Event}
 use Rattle.cj_cluster.specs.declared.event.Event.TheVariants.{Disabled, Marker}
-use Rattle.cj_cluster.specs.History.Histories.{events_left, is_enabled}
-use Rattle.cj_cluster.proofs.Pushed.{enabled-push, prefix_trans}
+use Rattle.cj_cluster.specs.History.Histories.{database_after, events_left, is_enabled, log}
+use Rattle.cj_cluster.proofs.Pushed.{at-prefix, enabled-push, log-prefix, prefix_self, prefix_trans}
 use Rattle.cj_place.specs.Layouts.{Layout}
 use Rattle.cj_board.specs.declared.view.SeatView.{SeatView}
+use Rattle.cj_book.specs.BookLogs.{BookLogState}
 use Rattle.cj_book.specs.declared.error.BookError.{BookError}
 use Rattle.cj_book.specs.declared.error.BookError.TheVariants as book_errors
 use Rattle.cj_dump.specs.declared.dump.Dump.{Dump}
+use Rattle.cj_log.specs.declared.item.LogItem.{LogItem}
 use Rattle.cj_pass.specs.Passes.{HasNotedMore}
 use Rattle.cj_pass.proofs.Passes.{noted_self}
 use Rattle.cj_locked_cell.proofs.Asking.{fault_between}
 use Rattle.cj_locked.specs.Auditing.{IsHeldOver}
 use Rattle.cj_locked.specs.Changes.{BringsAt}
-use Rattle.cj_locked.specs.Marking.{MarksSince}
+use Rattle.cj_locked.specs.Marking.{BeginsMarkSince, MarksSince}
 use Rattle.cj_locks.specs.Dumping.{CanSpare, Dumps, DumpsSince, MarksDump, ReadsDump, RefusesDump}
 use Rattle.cj_locks.specs.declared.restore.RestoreError.{RestoreError}
 use Rattle.cj_locks.specs.declared.restore.RestoreError.TheVariants as errors
@@ -28,24 +32,16 @@ can_name b few same = let is : b ≡ 255 = cc same in absurd (omega (arith, few,
 
 -- ---- its marker
 
--- none came
-pub unmarked : (F G : List Event) (name : List ℕ) (b : ℕ) (error : BookError) → MarksSince F G name (Some b) (Err error) → DumpsSince F G name b (Err error)
-unmarked F G name b (book_errors.InProgress n) since = absurd since.at
-unmarked F G name b book_errors.NoBackend since = absurd since.at
-unmarked F G name b (book_errors.HistoryFull n) since = absurd since.at
-unmarked F G name b book_errors.LogFault since = record { m = since.m; over = since.over; at = since.at }
-unmarked F G name b book_errors.NoMemory since = record { m = since.m; over = since.over; at = since.at }
+-- a pass had seen less before
+pub begun_earlier : {S : Type 0} (tells : Bool) (count : S → ℕ) (F G H : List Event) (name : List ℕ) (b : Option ℕ) (amount : ℕ) (l : BookLogState S) (item : LogItem) → IsPrefix F G → BeginsMarkSince tells count G H name b amount l item → BeginsMarkSince tells count F H name b amount l item
+begun_earlier tells count F G H name b amount l item longer since = record { holds = since.holds; longer = prefix_trans F G since.holds.m longer since.longer; is = since.is; its = since.its }
+
+-- it was begun by what a pass had seen then
+pub begun_again : {S : Type 0} (tells : Bool) (count : S → ℕ) (F G : List Event) (name : List ℕ) (b : Option ℕ) (amount : ℕ) (l : BookLogState S) (item : LogItem) → BeginsMarkSince tells count F G name b amount l item → BeginsMarkSince tells count G G name b amount l item
+begun_again tells count F G name b amount l item since = record { holds = since.holds; longer = subst (IsPrefix G) since.is (prefix_self G); is = since.is; its = since.its }
 
 -- it came, which gave H
 module _ (F H G : List Event) (name : List ℕ) (b n : ℕ) (since : MarksSince F H name (Some b) (Ok n)) where
-  -- there was no room to disable the backend
-  pub not_disabled : (error : BookError) → BringsAt H (Disabled b) (is_enabled H b) (Err error) G → DumpsSince F G name b (Err error)
-  not_disabled (book_errors.InProgress k) at = absurd at
-  not_disabled book_errors.NoBackend at = absurd at
-  not_disabled (book_errors.HistoryFull k) at = record { m = since.m; over = since.over; at = (at.3 ∙ since.at.2, at.2 ∙ ap length (sym at.3), subst (λ (x : List Event). events_left x < 1) (sym at.3) at.1) }
-  not_disabled book_errors.LogFault at = absurd at
-  not_disabled book_errors.NoMemory at = absurd at
-
   -- the backend was enabled, and is disabled
   pub dumped : is_enabled F b ≡ true → (done : Bool) → BringsAt H (Disabled b) (is_enabled H b) (Ok done) G → DumpsSince F G name b (Ok n)
   dumped was true at = record {
@@ -56,23 +52,12 @@ module _ (F H G : List Event) (name : List ℕ) (b n : ℕ) (since : MarksSince 
   dumped was false at = absurd
       (both_ways (is_enabled H b) at.0 (ap (λ (x : List Event). is_enabled x b) since.at.2 ∙ (enabled-push since.m (Marker name (Some b)) b ∙ (since.over.enabled b ∙ was))))
 
--- ---- what it comes to
+-- what a backend gives at a position of a longer log is what it has at the end of the log there
+pub part_at_end : (m G : List Event) → IsPrefix m G → (n : ℕ) → n ≡ length (log m) → (p : Placement) (b : ℕ) (db : List Slot) → db ≡ part p b (database_after (log G) n) → db ≡ part p b (database_after (log m) (length (log m)))
+part_at_end m G begins n is p b db holds =
+    holds ∙ (ap (λ (k : ℕ). part p b (database_after (log G) k)) is ∙ ap (part p b) (at-prefix (log m) (log G) (length (log m)) (log-prefix m G begins) (omega arith)))
 
--- none was begun
-pub dump_refused : (tells : Bool) (l : Layout) (b : ℕ) (name : List ℕ) (u v : SeatView) → IsPrefix u.front v.front → (error : RestoreError) → RefusesDump l v.front b name error → Dumps tells l b name u v (Err error)
-dump_refused tells l b name u v longer errors.NotEnabled why = (longer, why)
-dump_refused tells l b name u v longer errors.NameTaken why = why
-dump_refused tells l b name u v longer (errors.LastHost table) why = (why.1, why.2)
-dump_refused tells l b name u v longer (errors.HistoryFull n) why = (why.2, why.3)
-dump_refused tells l b name u v longer errors.NoMemory why = tt
-dump_refused tells l b name u v longer errors.AlreadyEnabled why = absurd why
-dump_refused tells l b name u v longer errors.LogFault why = absurd why
-dump_refused tells l b name u v longer (errors.Fault k) why = absurd why
-dump_refused tells l b name u v longer errors.Starved why = absurd why
-dump_refused tells l b name u v longer (errors.Out seen) why = absurd why
-dump_refused tells l b name u v longer errors.NotOut why = absurd why
-dump_refused tells l b name u v longer (errors.DumpLacks table) why = absurd why
-dump_refused tells l b name u v longer (errors.DumpAhead n) why = absurd why
+-- ---- what it comes to
 
 -- while the turn was held the same backends were enabled
 spare_over : (l : Layout) (F m : List Event) (b : ℕ) → IsHeldOver F m → CanSpare l F b → CanSpare l m b
@@ -91,6 +76,7 @@ module _ (tells : Bool) (l : Layout) (b : ℕ) (name : List ℕ) (u v : SeatView
 
   -- the backend was asked for what it holds
   pub dump_read : (n : ℕ) → DumpsSince u.front v.front name b (Ok n) → HasNotedMore u v → (w : SeatView) → HasNotedMore v w → (r : Result Dump RestoreError) → ReadsDump tells l name b n v w r → Dumps tells l b name u w r
+  unfolding dump_marks
   dump_read n since before w more r reads = by r reads
     where
       marks : MarksDump l u.front w.front name b
@@ -114,13 +100,6 @@ module _ (tells : Bool) (l : Layout) (b : ℕ) (name : List ℕ) (u v : SeatView
       by (Err errors.NotOut) is = absurd is
       by (Err (errors.DumpLacks table)) is = absurd is
       by (Err (errors.DumpAhead k)) is = absurd is
-
--- failures in queries had taken the room of the second event
-pub dump_full : (tells : Bool) (l : Layout) (b : ℕ) (name : List ℕ) (u v : SeatView) (n : ℕ) → DumpsSince u.front v.front name b (Err (book_errors.HistoryFull n)) → Dumps tells l b name u v (Err (errors.HistoryFull n))
-dump_full tells l b name u v n since = let none : events_left v.front < 1 = since.at.2 in (since.at.1, omega (arith, none))
-
-pub dump_faulted : (tells : Bool) (l : Layout) (b : ℕ) (name : List ℕ) (u v : SeatView) → DumpsSince u.front v.front name b (Err book_errors.LogFault) → Dumps tells l b name u v (Err errors.LogFault)
-dump_faulted tells l b name u v since = (since.m, since.over.longer, since.at)
 
 -- a pass had seen less before
 pub dumps_earlier : (tells : Bool) (l : Layout) (b : ℕ) (name : List ℕ) (u v w : SeatView) → HasNotedMore u v → (r : Result Dump RestoreError) → Dumps tells l b name v w r → Dumps tells l b name u w r

@@ -1,14 +1,17 @@
 -- How a backend comes back: what its load, the replay and the enabling come to.
-use Rattle.std.proofs.Common.{◌≡◌, ◌⊎◌, inl, inr, ⊎_elim, ℕ, ◌+◌, ◌<◌, ◌≤◌, ◌==◌, ◌&&◌, not, Bool, true, false, List, length, Contains, Option, None, Some, Result, Ok, Err, slice_get, ap, sym, ◌∙◌, subst, arith, eqb-true}
+use Rattle.std.proofs.Common.{◌≡◌, ◌⊎◌, inl, inr, ⊎_elim, ℕ, ◌+◌, ◌<◌, ◌≤◌, ◌==◌, ◌&&◌, not, Bool, true, false, List, length, Contains, Option, None, Some, Result, Ok, Err, get_or, slice_get, ap, sym, ◌∙◌, subst, arith, eqb-true}
 use Rattle.std.proofs.lemmas.Bool.{and_parts, not-true}
-use Rattle.std.proofs.lemmas.Option.{slice_get_within}
+use Rattle.std.proofs.lemmas.Option.{slice_get_cases, slice_get_within}
 use mathlib.Core.List.{IsPrefix}
 use Rattle.cj_model.specs.declared.request.Entry.{Entry}
+use Rattle.cj_model.specs.declared.answer.Outcome.{Outcome}
 use Rattle.cj_model.specs.Cluster.Placements.{part}
 use Rattle.cj_model.specs.Database.Storable.{IsStorable}
 use Rattle.cj_model.proofs.PartLaws.{part_is_storable}
 use Rattle.cj_cluster.specs.declared.event.Event.{Event}
 use Rattle.cj_cluster.specs.declared.event.Event.TheVariants.{Enabled}
+use Rattle.cj_cluster.specs.declared.moves.Did.{Did}
+use Rattle.cj_cluster.specs.declared.moves.Did.TheVariants as did
 use Rattle.cj_cluster.specs.History.Histories.{database_after, events_left, is_enabled, log}
 use Rattle.cj_cluster.proofs.Pushed.{prefix_trans}
 use Rattle.cj_place.specs.Layouts.{Layout, placement_of}
@@ -19,6 +22,7 @@ use Rattle.cj_dump.specs.Coverage.{cut, lacks}
 use Rattle.cj_dump.proofs.Cuts.{cut_is_part}
 use Rattle.cj_pass.specs.Passes.{HasNotedMore}
 use Rattle.cj_pass.proofs.Passes.{noted_self}
+use Rattle.cj_locked_cell.specs.Taking.{NotesReport}
 use Rattle.cj_locked_cell.proofs.Asking.{fault_between}
 use Rattle.cj_locked_cell.proofs.Loading.{part_later, within_later}
 use Rattle.cj_locked.specs.Changes.{BringsSince}
@@ -37,6 +41,19 @@ pub cut_storable : (l : Layout) (b : ℕ) (d : Dump) → IsStorable d.db → IsS
 cut_storable l b d is = part_is_storable (placement_of l) b d.db is
 
 -- ---- a replay
+
+-- a log that has no entry behind the first n has no more
+pub no_more : (entries : List Entry) (n : ℕ) → slice_get entries n ≡ None → length entries ≤ n
+no_more entries n none = by (slice_get_cases entries n).1
+  where
+    by : ((e : Entry) × (n < length entries) × (slice_get entries n ≡ Some e) × (get_or entries n e ≡ e)) ⊎ ((length entries ≤ n) × (slice_get entries n ≡ None)) → length entries ≤ n
+    by (inl there) = let same : Some there.0 ≡ None = sym there.2 ∙ none in absurd (cc same)
+    by (inr past) = past.0
+
+-- a backend that carried out an entry or skipped it has taken it
+pub took : (v : SeatView) (n b : ℕ) (d : Did) → ((o : Outcome) × (d ≡ did.Done o)) ⊎ (d ≡ did.Skipped) → NotesReport v n b d → Contains v.position_notes (b, n)
+took v n b d (inl done) noted = subst (NotesReport v n b) done.1 noted
+took v n b d (inr skipped) noted = subst (NotesReport v n b) skipped noted
 
 -- the backend took entry n + 1, which the pass had seen
 pub took_next : (b n until : ℕ) (e : Entry) (u v : SeatView) → slice_get (log u.front) n ≡ Some e → HasNotedMore u v → Contains v.position_notes (b, n + 1) → TakesNext b n until u v (Ok (Some (n + 1)))
@@ -73,6 +90,26 @@ module _ (b : ℕ) where
       by (Err errors.Starved) is = tt
       by (Err errors.NoMemory) is = tt
       by (Err (errors.Out seen)) is = absurd is
+      by (Err errors.NotEnabled) is = absurd is
+      by (Err errors.AlreadyEnabled) is = absurd is
+      by (Err errors.NameTaken) is = absurd is
+      by (Err (errors.LastHost table)) is = absurd is
+      by (Err (errors.HistoryFull k)) is = absurd is
+      by (Err errors.LogFault) is = absurd is
+      by (Err errors.NotOut) is = absurd is
+      by (Err (errors.DumpLacks table)) is = absurd is
+      by (Err (errors.DumpAhead k)) is = absurd is
+
+  -- entries were taken, or not, and a pass had seen less before
+  pub replayed_earlier : (most until : ℕ) (u v w : SeatView) → HasNotedMore u v → (r : Result ℕ RestoreError) → ReplaysTo b most until v w r → ReplaysTo b most until u w r
+  replayed_earlier most until u v w more r replays = by r replays
+    where
+      by : (q : Result ℕ RestoreError) → ReplaysTo b most until v w q → ReplaysTo b most until u w q
+      by (Ok n) is = is
+      by (Err (errors.Out seen)) is = is
+      by (Err (errors.Fault k)) is = (is.0, fault_between b u v w w more (noted_self w) is.1)
+      by (Err errors.Starved) is = tt
+      by (Err errors.NoMemory) is = tt
       by (Err errors.NotEnabled) is = absurd is
       by (Err errors.AlreadyEnabled) is = absurd is
       by (Err errors.NameTaken) is = absurd is

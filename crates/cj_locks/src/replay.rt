@@ -212,11 +212,7 @@ impl<J: Naming, B: Backend, S: Store + Drop> Locks<J, B, S> {
         ensures more { HasNotedMore (pass_view pass.old.seat) (pass_view pass.new.seat) }
         ensures legal { IsLegal (front pass.new.seat) }
     {
-        let enabled = self
-            .locks
-            .book
-            .lock(rt)
-            .enable(&self.board, pass, turn, b, n);
+        let enabled = self.book.lock(rt).enable(&self.board, pass, turn, b, n);
         self.turn_back.notify_one();
         self.settled.notify_all();
         match enabled {
