@@ -1,5 +1,9 @@
 //! Backends and a log that fail again and again, and many sessions. The turn is given back each time.
 
+ghost use Rattle.std.specs.Prelude.{◌≡◌, IfOk};
+ghost use Rattle.cj_flaky.specs.FlakyBackends.{fresh_over};
+ghost use Rattle.cj_mem.specs.MemoryBackends.{fresh_state};
+
 use crate::clusters::play;
 use crate::frames::Sent::Query;
 use crate::frames::{DONE_0, DONE_1, Talk};
@@ -34,7 +38,9 @@ const BOTH_FAILED_READING: &[u8] = b"\x00\x00\x00\x13\x8f\x00\x29\
 const CREATE: &str = "CREATE TABLE t (k INTEGER PRIMARY KEY)";
 
 /// A backend that fails at each call but the first two.
-fn failing(alloc: Global) -> Result<Flaky<MemBackend>, Fail> {
+fn failing(alloc: Global) -> Result<Flaky<MemBackend>, Fail>
+    ensures { IfOk result (λ backend. backend ≡ fresh_over fresh_state backend.fails) }
+{
     let fails = Vec::from_array(alloc, [3, 4, 5, 6, 7, 8, 9, 10])?;
     Ok(Flaky::new(MemBackend::new(alloc), ListOf::from_vec(fails)))
 }

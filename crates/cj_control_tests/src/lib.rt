@@ -7,7 +7,7 @@
 //! Some cases have no test. A caller that was left makes no call, since `leave` takes it. Neither a full history nor a
 //! cluster without session numbers can be made, as both take 2^62 calls.
 //! To change: a new call gets a step in `steps`, and its test goes into the file of its subject. `restoring` has
-//! scenes of its own, since a dump is known to be right there only over backends that tell nothing. Proofs are in
+//! steps of its own, since its backends tell nothing: then any dump that can be stored may be loaded. Proofs are in
 //! `proofs/clusters`; that of `play` picks the names of the cluster.
 #![tactic(auto)]
 

@@ -1,5 +1,8 @@
 //! Sessions in two threads: each reads what it wrote, and reads are answered at the same time.
 
+ghost use Rattle.std.specs.Prelude.{◌≡◌, IfOk};
+ghost use Rattle.cj_mem.specs.MemoryBackends.{fresh_state};
+
 use crate::clusters::play;
 use crate::frames::Sent::Query;
 use crate::frames::{DONE_0, DONE_1, DONE_2, Talk};
@@ -94,7 +97,9 @@ fn meets(
     mine: &Flag,
     other: &Flag,
     missed: &Flag,
-) -> Result<Gated<MemBackend, Meeting>, Fail> {
+) -> Result<Gated<MemBackend, Meeting>, Fail>
+    ensures { IfOk result (λ backend. backend.inner ≡ fresh_state) }
+{
     let gate = Meeting {
         mine: Arc::try_clone(mine)?,
         other: Arc::try_clone(other)?,
