@@ -16,3 +16,4 @@ use Rattle.cj_board.proofs.seats.Pass.TheSendSync as a11
 use Rattle.cj_board.proofs.seats.Board.TheSendSync as a12
 use Rattle.cj_locked.proofs.look.Look.TheSendSync as a13
 use Rattle.cj_book.proofs.book.Book.TheSendSync as a14
+
