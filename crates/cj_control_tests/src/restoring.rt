@@ -85,16 +85,16 @@ impl Flags {
             missed: Arc::try_clone(&self.missed)?,
         })
     }
+}
 
-    /// Looks for a flag. If it is not raised before the looks are spent, that is noted.
-    fn look_for(&self, flag: &Flag) {
-        for _ in 0..LOOKS {
-            if flag.load(Ordering::SeqCst) == 1 {
-                return;
-            }
+/// Whether the flag is raised before the looks are spent.
+fn is_seen(flag: &Flag) -> bool {
+    for _ in 0..LOOKS {
+        if flag.load(Ordering::SeqCst) == 1 {
+            return true;
         }
-        self.missed.store(1, Ordering::SeqCst);
     }
+    false
 }
 
 /// A gate that, once it is armed, tells that a write came, and holds it until a session was answered.
@@ -109,7 +109,9 @@ impl Gate for Held {
     fn pass_write(&mut self) {
         if self.flags.armed.swap(0, Ordering::SeqCst) == 1 {
             self.flags.came.store(1, Ordering::SeqCst);
-            self.flags.look_for(&self.flags.answered);
+            if !is_seen(&self.flags.answered) {
+                self.flags.missed.store(1, Ordering::SeqCst);
+            }
         }
     }
 }
@@ -207,7 +209,9 @@ fn insert<J: Naming, R: Wait + Abort>(
     pass: &mut Pass<J>,
     flags: &Flags,
 ) -> Result<(), NoMemory> {
-    flags.look_for(&flags.came);
+    if !is_seen(&flags.came) {
+        flags.missed.store(1, Ordering::SeqCst);
+    }
     serve(rt, alloc, control, pass, &SECOND_ROW)?;
     flags.answered.store(1, Ordering::SeqCst);
     Ok(())
