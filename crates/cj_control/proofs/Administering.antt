@@ -72,16 +72,16 @@ not_begun F G name book_errors.LogFault refusal longer why is = absurd why
 not_begun F G name book_errors.NoMemory refusal longer why is = subst (λ (x : AdminError). ChecksSince F G name (Err x)) (sym is) (record { m = G; longer = longer; at = refl })
 
 pub marked_checks : (F H G : List Event) (name : List ℕ) (n : ℕ) → IsPrefix F H → MarksSince H G name None (Ok n) → ChecksSince F G name (Ok n)
-marked_checks F H G name n longer since = record { m = since.m; longer = prefix_trans F H since.m longer since.longer; at = since.at }
+marked_checks F H G name n longer since = record { m = since.m; longer = prefix_trans F H since.m longer since.over.longer; at = since.at }
 
 pub not_marked : (F H G : List Event) (name : List ℕ) (error : BookError) (refusal : AdminError) → IsPrefix F H → MarksSince H G name None (Err error) → IsRefusalOf error refusal → ChecksSince F G name (Err refusal)
 not_marked F H G name (book_errors.InProgress n) refusal longer since is = absurd is
 not_marked F H G name book_errors.NoBackend refusal longer since is = absurd is
 not_marked F H G name (book_errors.HistoryFull n) refusal longer since is = absurd since.at
 not_marked F H G name book_errors.LogFault refusal longer since is =
-    subst (λ (x : AdminError). ChecksSince F G name (Err x)) (sym is) (record { m = since.m; longer = prefix_trans F H since.m longer since.longer; at = since.at })
+    subst (λ (x : AdminError). ChecksSince F G name (Err x)) (sym is) (record { m = since.m; longer = prefix_trans F H since.m longer since.over.longer; at = since.at })
 not_marked F H G name book_errors.NoMemory refusal longer since is =
-    subst (λ (x : AdminError). ChecksSince F G name (Err x)) (sym is) (record { m = since.m; longer = prefix_trans F H since.m longer since.longer; at = since.at })
+    subst (λ (x : AdminError). ChecksSince F G name (Err x)) (sym is) (record { m = since.m; longer = prefix_trans F H since.m longer since.over.longer; at = since.at })
 
 -- ---- an orphan is ended
 

@@ -1,5 +1,5 @@
 -- The audit of a cluster that threads share, backend after backend.
-use Rattle.std.proofs.Common.{◌≡◌, ◌⊎◌, ℕ, ◌+◌, ◌<◌, ◌≤◌, Bool, true, false, List, [], ◌∷◌, ◌++◌, length, Some, Contains, slice_get, slice_index_or, inl, inr, if◌then◌else◌, ap, sym, ◌∙◌, arith, append-nil, eq-eqb, eqb-true}
+use Rattle.std.proofs.Common.{◌≡◌, ℕ, ◌+◌, ◌≤◌, Bool, true, false, List, [], ◌∷◌, ◌++◌, length, Some, slice_get, slice_index_or, if◌then◌else◌, ap, sym, ◌∙◌, arith, append-nil, eq-eqb, eqb-true}
 use mathlib.Core.List.{IsPrefix}
 use Rattle.std.specs.List.{flat_map, range_with_len}
 use Rattle.std.proofs.lemmas.Grind.{flat_map-append}
@@ -17,8 +17,7 @@ use Rattle.cj_cluster.specs.History.Legality.{IsLegal}
 use Rattle.cj_cluster.proofs.Pushed.{at-prefix, ends-prefix, length-ends, log-prefix, prefix_length, prefix_trans}
 use Rattle.cj_model.specs.declared.database.Slot.{Slot}
 use Rattle.cj_model.specs.Cluster.Placements.{Placement, part}
-use Rattle.cj_board.specs.Points.{max_word}
-use Rattle.cj_locked_cell.specs.Asking.{NotesFault}
+use Rattle.cj_locked_cell.proofs.Asking.{fault_between}
 use Rattle.cj_locked.specs.Auditing.{HoldsTurn, IsHeldOver}
 use Rattle.cj_pass.specs.Passes.{HasNotedMore}
 use Rattle.cj_control.specs.Auditing.{FailsAudit, audit_lines_at, audit_text_of}
@@ -68,17 +67,6 @@ same_text names p h g entries enabled =
     (λ i b. if enabled b i then backend_lines (slice_index_or names b []) (part p b (database_after (entries i) (length (entries i)))) else [])
 
 -- ---- a backend that failed
-
-pub fault_between : (b : ℕ) (u v w z : SeatView) → HasNotedMore u v → HasNotedMore w z → NotesFault b v w → NotesFault b u z
-fault_between b u v w z before after noted = record {
-  count = noted.count;
-  noted = after.faults (b, noted.count) noted.noted;
-  higher = by noted.higher;
-}
-  where
-    by : (max_word ≤ noted.count) ⊎ ((k : ℕ) → Contains v.fault_notes (b, k) → k < noted.count) → (max_word ≤ noted.count) ⊎ ((k : ℕ) → Contains u.fault_notes (b, k) → k < noted.count)
-    by (inl top) = inl top
-    by (inr more) = inr (λ k there. more k (before.faults (b, k) there))
 
 pub fails_between : (h g : List Event) (u v w z : SeatView) (error : AdminError) → ((b : ℕ) → is_enabled g b ≡ is_enabled h b) → HasNotedMore u v → HasNotedMore w z → FailsAudit h v w error → FailsAudit g u z error
 fails_between h g u v w z NotEnabled enabled before after fails = fails

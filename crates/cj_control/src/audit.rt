@@ -28,39 +28,6 @@ use cj_replica::CellError;
 use std::sync::Wait;
 
 impl<J: Naming, B: Backend, S: Store + Drop> Control<J, B, S> {
-    /// Gives the turn back, and wakes those who wait for it.
-    fn give_back<R: Wait>(&self, rt: &R, pass: &mut Pass<J>, turn: Turn<J, S>)
-        requires holds { HoldsTurn S.tells S.faults (front pass.old.seat) turn.share.amount turn.log }
-        ensures held { IsHeldOver (front pass.old.seat) (front pass.new.seat) }
-        ensures since { (m H : List Event) → turn.share.amount ≡ turn_amount m None → is_free m ≡ true → IsPrefix m H → IsPrefix H (front pass.old.seat) → IsHeldOver H (front pass.new.seat) }
-        ensures more { HasNotedMore (pass_view pass.old.seat) (pass_view pass.new.seat) }
-        ensures legal { IsLegal (front pass.new.seat) }
-    {
-        self.locks
-            .book
-            .lock(rt)
-            .give_back(&self.locks.board, pass, turn);
-        self.locks.turn_back.notify_one();
-        self.locks.settled.notify_all();
-    }
-
-    /// Asks backend `b` for all that it holds, if it stands at position `n`.
-    fn contents_at<R: Wait>(
-        &self,
-        rt: &R,
-        pass: &mut Pass<J>,
-        b: u8,
-        n: u64,
-    ) -> Result<Db, CellError>
-        ensures more { HasNotedMore (pass_view pass.old.seat) (pass_view pass.new.seat) }
-        ensures gives { GivesPart B.tells (placement_of J.layout) b n (pass_view pass.old.seat) (pass_view pass.new.seat) result }
-    {
-        let Some(cell) = self.locks.cells.get(b as usize) else {
-            return Err(CellError::Starved);
-        };
-        cell.lock(rt).contents(&self.locks.board, pass, b, n)
-    }
-
     /// Appends the lines of one backend. It is asked for its contents if it is in the mask, and else has no lines. No
     /// lock is held while the lines are made.
     fn audit_backend<R: Wait>(
@@ -82,7 +49,7 @@ impl<J: Naming, B: Backend, S: Store + Drop> Control<J, B, S> {
         if !has_bit(enabled, b) {
             return Ok(());
         }
-        let contents = self.contents_at(rt, pass, b, n);
+        let contents = self.locks.contents_at(rt, pass, b, n);
         match contents {
             Ok(database) => match append_backend(text, self.locks.placement.name(b), &database) {
                 Ok(()) => Ok(()),
@@ -134,7 +101,7 @@ impl<J: Naming, B: Backend, S: Store + Drop> Control<J, B, S> {
             turn,
         } = self.locks.wait_for_turn(rt).hold(&self.locks.board, pass);
         let text = self.audit_each(rt, pass, length, enabled);
-        self.give_back(rt, pass, turn);
+        self.locks.give_back(rt, pass, turn);
         text
     }
 }

@@ -15,10 +15,12 @@ mod administration;
 mod audit;
 mod caller;
 mod control;
+mod restore;
 mod show;
 mod start;
 
 pub use administration::AdminError;
 pub use caller::{Caller, CallerError};
+pub use cj_locks::RestoreError;
 pub use cj_pass::{Naming, Pass};
 pub use control::Control;

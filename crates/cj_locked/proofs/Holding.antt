@@ -33,21 +33,24 @@ holds_turn tells count book l k amount G vacant is same now = record {
 events_grow : (g h : List Event) → IsPrefix g h → turn_events_of g ≤ turn_events_of h
 events_grow g h longer = subst (λ (x : List Event). turn_events_of g ≤ turn_events_of x) longer.1 (turn_events_more g longer.0)
 
--- The turn has the amount of history m, from which H goes on, and F from H; the book stands at h. Only failures in reads
--- came since H.
-pub held_since : (m H F h : List Event) (amount : ℕ) → amount ≡ turn_amount m None → is_free m ≡ true → IsPrefix m H → IsPrefix H F → IsPrefix F h → (item : Option Pending) → amount ≡ turn_amount h item → (G : List Event) → G ≡ h → IsHeldOver H G
-held_since m H F h amount turn free begins seen longer item whole G now =
-    let rest : IsPrefix H h = prefix_trans H F h seen longer in
-    let all : IsPrefix m h = prefix_trans m H h begins rest in
-    let same : (turn_events_of h ≡ turn_events_of m) × (item ≡ None) = same_amount m h None item all (sym turn ∙ whole) in
-    let few : turn_events_of m ≤ turn_events_of H = events_grow m H begins in
-    let more : turn_events_of H ≤ turn_events_of h = events_grow H h rest in
+-- The turn has the amount of history m with what its holder began; F goes on from m, and the book stands at h. Only
+-- failures in reads came since F.
+pub over_since : (own item : Option Pending) (m F h : List Event) (amount : ℕ) → amount ≡ turn_amount m own → is_free m ≡ true → IsPrefix m F → IsPrefix F h → amount ≡ turn_amount h item → IsHeldOver F h
+over_since own item m F h amount turn free begins longer whole =
+    let all : IsPrefix m h = prefix_trans m F h begins longer in
+    let same : (turn_events_of h ≡ turn_events_of m) × (item ≡ own) = same_amount m h own item all (sym turn ∙ whole) in
+    let few : turn_events_of m ≤ turn_events_of F = events_grow m F begins in
+    let more : turn_events_of F ≤ turn_events_of h = events_grow F h longer in
     let none : turn_events_of h ≡ turn_events_of m = same.0 in
-    let none_before : turn_events_of H ≡ turn_events_of m = omega (arith, few, more, none) in
-    let none_behind : turn_events_of h ≡ turn_events_of H = omega (arith, few, more, none) in
-    let before : TurnStays m H = turn_stays m H begins none_before in
-    let behind : TurnStays H h = turn_stays H h rest none_behind in
-    subst (IsHeldOver H) (sym now) (record { longer = rest; was_free = free_stays m H before ∙ free; entries = behind.entries; enabled = behind.enabled })
+    let none_before : turn_events_of F ≡ turn_events_of m = omega (arith, few, more, none) in
+    let none_behind : turn_events_of h ≡ turn_events_of F = omega (arith, few, more, none) in
+    let before : TurnStays m F = turn_stays m F begins none_before in
+    let behind : TurnStays F h = turn_stays F h longer none_behind in
+    record { longer = longer; was_free = free_stays m F before ∙ free; entries = behind.entries; enabled = behind.enabled }
+
+-- the same of the turn by itself, where H goes on from m, and F from H
+pub held_since : (m H F h : List Event) (amount : ℕ) → amount ≡ turn_amount m None → is_free m ≡ true → IsPrefix m H → IsPrefix H F → IsPrefix F h → (item : Option Pending) → amount ≡ turn_amount h item → (G : List Event) → G ≡ h → IsHeldOver H G
+held_since m H F h amount turn free begins seen longer item whole G now = subst (IsHeldOver H) (sym now) (over_since None item m H h amount turn free begins (prefix_trans H F h seen longer) whole)
 
 module _ {S : Type 0} (tells : Bool) (count : S → ℕ) (F h : List Event) (amount : ℕ) (l : BookLogState S) (holds : HoldsTurn tells count F amount l) (longer : IsPrefix F h) (item : Option Pending) (whole : amount ≡ turn_amount h item) where
   begins : IsPrefix holds.m h

@@ -15,6 +15,7 @@ use Rattle.cj_book.specs.BookLogs.{BookLogState, LogFollows}
 use Rattle.cj_book.specs.declared.error.BookError.{BookError}
 use Rattle.cj_book.specs.declared.error.BookError.TheVariants.{InProgress, NoBackend, HistoryFull, LogFault, NoMemory}
 use Rattle.cj_book.specs.declared.pending.Pending.TheVariants as pending
+use Rattle.cj_locked.specs.Auditing.{IsHeldOver}
 use Rattle.cj_locked.specs.Turns.{turn_amount}
 
 -- Who began a marker at history m, where it could come, has the turn: the turn's amount has a marker as pending, and
@@ -64,8 +65,8 @@ MarksAt m name b (Err (HistoryFull n)) G = ⊥
 MarksAt m name b (Err LogFault) G = G ≡ m ++ LogFailed 0 0 ∷ []
 MarksAt m name b (Err NoMemory) G = G ≡ m
 
--- it came now, since the pass had seen F
+-- it came now; since the pass had seen F, no entry came, and none of the backends was enabled or disabled
 pub record MarksSince (F G : List Event) (name : List ℕ) (b : Option ℕ) (result : Result ℕ BookError) : Type 0 where
   pub m : List Event
-  pub longer : IsPrefix F m
+  pub over : IsHeldOver F m
   pub at : MarksAt m name b result G

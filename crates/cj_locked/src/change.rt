@@ -5,11 +5,12 @@ ghost use Rattle.cj_cluster.specs.declared.event.Event.{Event};
 ghost use Rattle.cj_cluster.specs.History.Histories.{is_enabled, log};
 ghost use Rattle.cj_cluster.specs.History.Legality.{IsLegal};
 ghost use Rattle.cj_board.specs.Seats.{front, pass_view};
+ghost use Rattle.cj_locked.specs.Auditing.{HoldsTurn};
 ghost use Rattle.cj_locked.specs.Changes.{BringsAt, BringsSince};
 ghost use Rattle.cj_pass.specs.Passes.{HasNotedMore};
 
 use crate::book::LockedBook;
-use crate::turn::taken;
+use crate::turn::{Turn, taken};
 use cj_book::BookError;
 use cj_outside::Store;
 use cj_pass::{NamedBoard, Naming, Pass};
@@ -25,6 +26,7 @@ impl<J: Naming, S: Store + Drop> LockedBook<J, S> {
         requires vacant { is_none self.old.log ≡ false }
         requires below { b < length J.layout.names }
         ensures brings { BringsSince (front pass.old.seat) (front pass.new.seat) (Event.Disabled b) (λ h. is_enabled h b) result }
+        ensures now { BringsAt self.old.book.state.history (Event.Disabled b) (is_enabled self.old.book.state.history b) result self.new.book.state.history }
         ensures more { HasNotedMore (pass_view pass.old.seat) (pass_view pass.new.seat) }
         ensures legal { IsLegal (front pass.new.seat) }
         ensures told { front pass.new.seat ≡ self.new.book.state.history }
@@ -60,16 +62,17 @@ impl<J: Naming, S: Store + Drop> LockedBook<J, S> {
         }
     }
 
-    /// Enables a backend that has taken the first `n` entries, while nobody has the turn. False if it is enabled
-    /// already, or if there are more entries by now.
+    /// Takes the turn back from who held it, and enables a backend that has taken the first `n` entries. False if it is
+    /// enabled already, or if the log has more entries.
     pub fn enable(
         &mut self,
         board: &NamedBoard<J>,
         pass: &mut Pass<J>,
+        turn: Turn<J, S>,
         b: u8,
         n: u64,
     ) -> Result<bool, BookError>
-        requires vacant { is_none self.old.log ≡ false }
+        requires holds { HoldsTurn S.tells S.faults (front pass.old.seat) turn.share.amount turn.log }
         requires below { b < length J.layout.names }
         requires noted { Contains (pass_view pass.old.seat).position_notes (b, n) }
         ensures brings { BringsSince (front pass.old.seat) (front pass.new.seat) (Event.Enabled b) (λ h. not (is_enabled h b) && (length (log h) == n)) result }
@@ -78,7 +81,7 @@ impl<J: Naming, S: Store + Drop> LockedBook<J, S> {
         ensures told { front pass.new.seat ≡ self.new.book.state.history }
         ensures back { is_none self.new.log ≡ false }
     {
-        self.tell(board, pass);
+        self.give_back(board, pass, turn);
         let enabled = self.enable_now(board, b, n);
         self.tell(board, pass);
         enabled

@@ -1,6 +1,6 @@
 //! The turn, held by who brings no event, and a look at which backends are enabled.
 
-ghost use Rattle.std.specs.Prelude.{◌≡◌, ℕ, List, None, true, false, length, is_none};
+ghost use Rattle.std.specs.Prelude.{◌≡◌, ℕ, List, None, true, false, length, Contains, is_none};
 ghost use mathlib.Core.List.{IsPrefix};
 ghost use Rattle.cj_model.specs.Cluster.Masks.{in_mask};
 ghost use Rattle.cj_cluster.specs.declared.event.Event.{Event};
@@ -56,6 +56,7 @@ impl<J: Naming, S: Store + Drop> LockedBook<J, S> {
         requires holds { HoldsTurn S.tells S.faults (front pass.old.seat) turn.share.amount turn.log }
         ensures held { IsHeldOver (front pass.old.seat) (front pass.new.seat) }
         ensures since { (m H : List Event) → turn.share.amount ≡ turn_amount m None → is_free m ≡ true → IsPrefix m H → IsPrefix H (front pass.old.seat) → IsHeldOver H (front pass.new.seat) }
+        ensures heard { (note : ℕ × ℕ) → Contains (pass_view pass.old.seat).position_notes note → Contains self.new.book.view.position_notes note }
         ensures more { HasNotedMore (pass_view pass.old.seat) (pass_view pass.new.seat) }
         ensures legal { IsLegal (front pass.new.seat) }
         ensures told { front pass.new.seat ≡ self.new.book.state.history }

@@ -1,12 +1,12 @@
 //! How a query looks at the book: who may answer it, and what becomes of the answer.
 
-ghost use Rattle.std.specs.Prelude.{◌≡◌, ◌≢◌, ◌↔◌, ◌==◌, ◌&&◌, ◌^◌, ◌<◌, ◌≤◌, true, false, length, IfOk, None, Ok};
+ghost use Rattle.std.specs.Prelude.{◌≡◌, ◌≢◌, ◌↔◌, ◌==◌, ◌&&◌, ◌^◌, ◌<◌, ◌≤◌, true, false, length, slice_get, option_copied, IfOk, None, Ok};
 ghost use Rattle.cj_model.specs.declared.answer.Asked.TheVariants.{Rows};
 ghost use Rattle.cj_model.specs.Cluster.Balancing.{one_less};
 ghost use Rattle.cj_model.specs.Cluster.Caching.{after_keep, has_answer};
 ghost use Rattle.cj_model.specs.Database.Outcomes.{IsAnswer};
 ghost use Rattle.cj_cluster.specs.History.Freshness.{IsAnswerAt, NoneTouches};
-ghost use Rattle.cj_cluster.specs.History.Histories.{ended_count, log};
+ghost use Rattle.cj_cluster.specs.History.Histories.{ended_count, events_left, has_marker, log};
 ghost use Rattle.cj_cluster.specs.History.Legality.{IsLegal};
 ghost use Rattle.cj_place.specs.Layouts.{placement_of};
 ghost use Rattle.cj_board.specs.Seats.{front, pass_view};
@@ -15,7 +15,7 @@ ghost use Rattle.cj_pass.specs.Passes.{HasNotedMore};
 
 use crate::book::{LockedBook, without};
 use cj_book::SharedAnswer;
-use cj_model::{Answer, BACKEND_LIMIT, Cached, NoMemory, Select};
+use cj_model::{Answer, BACKEND_LIMIT, Cached, Entry, Name, NoMemory, Select};
 use cj_outside::Store;
 use cj_pass::{NamedBoard, Naming, Pass};
 use std::alloc::Global;
@@ -226,6 +226,37 @@ impl<J: Naming, S: Store + Drop> LockedBook<J, S> {
         ensures { result ≡ length (log self.now.book.state.history) }
     {
         self.book.length()
+    }
+
+    /// Returns the entry behind the first `n`. None if the log has no more.
+    pub fn entry_after(&self, n: u64) -> Option<&Entry>
+        ensures { option_copied result ≡ slice_get (log self.now.book.state.history) n }
+    {
+        if n >= self.book.length() {
+            return None;
+        }
+        self.book.entry(n + 1)
+    }
+
+    /// Returns whether a marker has the name.
+    pub fn is_marked(&self, name: &Name) -> bool
+        ensures { result ≡ has_marker self.now.book.state.history name.now }
+    {
+        self.book.is_taken(name)
+    }
+
+    /// Returns the number of events in the history.
+    pub fn events(&self) -> u64
+        ensures { result ≡ length self.now.book.state.history }
+    {
+        self.book.events()
+    }
+
+    /// Returns how many more events have room.
+    pub fn room(&self) -> u64
+        ensures { result ≡ events_left self.now.book.state.history }
+    {
+        self.book.room()
     }
 
     /// Returns whether fewer than `n` entries have ended.

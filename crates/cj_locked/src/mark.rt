@@ -1,10 +1,15 @@
 //! How a checkpoint's marker comes: it is begun under the book's lock, appended to the log with none, and finished.
 
-ghost use Rattle.std.specs.Prelude.{◌≡◌, ◌≢◌, [], true, false, IfOk, IfErr, IfSome, IsNone, OnErr, Some, is_none};
-ghost use Rattle.cj_cluster.specs.History.Histories.{has_marker};
+ghost use Rattle.std.specs.Prelude.{◌≡◌, ◌≢◌, List, [], true, false, IfOk, IfErr, IfSome, IsNone, OnErr, Some, is_none};
+ghost use mathlib.Core.List.{IsPrefix};
+ghost use Rattle.cj_cluster.specs.declared.event.Event.{Event};
+ghost use Rattle.cj_cluster.specs.History.Histories.{has_marker, is_free};
 ghost use Rattle.cj_cluster.specs.History.Legality.{IsLegal};
 ghost use Rattle.cj_board.specs.Seats.{front, pass_view};
+ghost use Rattle.cj_book.specs.declared.pending.Pending.TheVariants as pending;
+ghost use Rattle.cj_locked.specs.Auditing.{IsHeldOver};
 ghost use Rattle.cj_locked.specs.Marking.{BeginsMarkSince, HoldsMarked, MarksAt, MarksSince, RefusesMark};
+ghost use Rattle.cj_locked.specs.Turns.{turn_amount};
 ghost use Rattle.cj_pass.specs.Passes.{HasNotedMore};
 
 use crate::book::{LockedBook, refusal_weight};
@@ -38,6 +43,7 @@ impl<J: Naming, S: Store + Drop> LockedBook<J, S> {
         ensures ok { IfOk result (λ begun. IfSome begun (λ x. BeginsMarkSince S.tells S.faults (front pass.old.seat) (front pass.new.seat) name.now b x.turn.share.amount x.turn.log x.item)) }
         ensures taken { IfOk result (λ begun. IsNone begun → (has_marker (front pass.new.seat) name.now ≡ true) × (is_none self.new.log ≡ false)) }
         ensures err { IfErr result (RefusesMark (front pass.new.seat)) }
+        ensures state { self.new.book.state ≡ self.old.book.state }
         ensures more { HasNotedMore (pass_view pass.old.seat) (pass_view pass.new.seat) }
         ensures legal { IsLegal (front pass.new.seat) }
         ensures told { front pass.new.seat ≡ self.new.book.state.history }
@@ -111,6 +117,7 @@ impl<J: Naming, S: Store + Drop> LockedBook<J, S> {
     ) -> Result<u64, BookError>
         requires holds { HoldsMarked S.tells S.faults self.old.book.state.history name.now b turn.share.amount turn.log appended }
         ensures marks { MarksAt self.old.book.state.history name.now b result self.new.book.state.history }
+        ensures over { (m F : List Event) → turn.share.amount ≡ turn_amount m (Some pending.Marker) → is_free m ≡ true → IsPrefix m F → IsPrefix F self.old.book.state.history → IsHeldOver F self.old.book.state.history }
         ensures back { is_none self.new.log ≡ false }
     {
         turn.audit(&mut self.ledger);

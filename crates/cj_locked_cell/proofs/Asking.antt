@@ -19,7 +19,28 @@ use Rattle.cj_replica.specs.Cells.{CellState, GivesContents}
 use Rattle.cj_replica.specs.Logged.{IsLoggedPart}
 use Rattle.cj_replica.specs.Seated.{IsSeated, SeatedCell, StandsWhereEnabled, view_after_call}
 use Rattle.cj_replica.proofs.Longer.{part_longer}
+use Rattle.cj_pass.specs.Passes.{HasNotedMore}
 use Rattle.cj_locked_cell.specs.Asking.{GivesPart, NotesFault}
+
+-- a seat that knew no fewer faults than a pass has notes of, and one more then, of which the pass hears
+pub notes_fault : (b : ℕ) (v w : SeatView) (known now : ℕ) → ((k : ℕ) → Contains v.fault_notes (b, k) → k ≤ known) → now ≡ one_fault_more known → Contains w.fault_notes (b, now) → NotesFault b v w
+notes_fault b v w known now heard more noted = record { count = now; noted = noted; higher = by_test (leb max_word known) refl more }
+  where
+    by_test : (t : Bool) → leb max_word known ≡ t → now ≡ cond t known (known + 1) → (max_word ≤ now) ⊎ ((k : ℕ) → Contains v.fault_notes (b, k) → k < now)
+    by_test true full are = let same : now ≡ known = are in let top = leb-true max_word known full in inl (omega arith)
+    by_test false full are = inr (λ k there. let one : now ≡ known + 1 = are in let less : k ≤ known = heard k there in omega arith)
+
+-- a pass that knew less before, and one that knows more then
+pub fault_between : (b : ℕ) (u v w z : SeatView) → HasNotedMore u v → HasNotedMore w z → NotesFault b v w → NotesFault b u z
+fault_between b u v w z before after noted = record { count = noted.count; noted = after.faults (b, noted.count) noted.noted; higher = by noted.higher }
+  where
+    by : (max_word ≤ noted.count) ⊎ ((k : ℕ) → Contains v.fault_notes (b, k) → k < noted.count) → (max_word ≤ noted.count) ⊎ ((k : ℕ) → Contains u.fault_notes (b, k) → k < noted.count)
+    by (inl top) = inl top
+    by (inr more) = inr (λ k there. more k (before.faults (b, k) there))
+
+-- a pass and a cell that stayed as they were
+pub heard_still : (v u : SeatView) (b c most : ℕ) → u ≡ v → c ≡ b → ((k : ℕ) → Contains v.fault_notes (b, k) → k ≤ most) → (k : ℕ) → Contains u.fault_notes (c, k) → k ≤ most
+heard_still v u b c most same its heard k there = heard k (subst (λ (z : SeatView × ℕ). Contains z.0.fault_notes (z.1, k)) (λ i. (same i, its i)) there)
 
 -- a cell in state s that was told, and is x; that was asked then, and is y; and a pass w that has heard of it, which
 -- knew v before
@@ -59,15 +80,7 @@ module _ (seated tells : Bool) (p : Placement) (s : CellState) (x y : SeatedCell
   faults_are is = ap (λ (z : SeatView). z.faults) (seat ∙ ap (view_after_call x.state.b x.view) is)
 
   its_fault : r ≡ Err Failed → NotesFault s.b v w
-  its_fault is = record {
-    count = y.view.faults;
-    noted = subst (λ b. Contains w.fault_notes (b, y.view.faults)) number noted;
-    higher = by_test (leb max_word x.view.faults) refl (faults_are is);
-  }
-    where
-      by_test : (t : Bool) → leb max_word x.view.faults ≡ t → y.view.faults ≡ cond t x.view.faults (x.view.faults + 1) → (max_word ≤ y.view.faults) ⊎ ((k : ℕ) → Contains v.fault_notes (s.b, k) → k < y.view.faults)
-      by_test true full are = let known : y.view.faults ≡ x.view.faults = are in let top = leb-true max_word x.view.faults full in inl (omega arith)
-      by_test false full are = inr (λ k there. let known : y.view.faults ≡ x.view.faults + 1 = are in let less : k ≤ x.view.faults = heard k there in omega arith)
+  its_fault is = notes_fault s.b v w x.view.faults y.view.faults heard (faults_are is) (subst (λ b. Contains w.fault_notes (b, y.view.faults)) number noted)
 
   pub gives_part : (n : ℕ) → s.position ≡ Some n → GivesPart tells p s.b n v w r
   gives_part n there = by r refl

@@ -1,4 +1,5 @@
 pub mod Answering
 pub mod Asking
+pub mod Loading
 pub mod Taking
 pub mod Tallying

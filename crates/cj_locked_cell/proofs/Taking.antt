@@ -1,5 +1,5 @@
 -- What a pass knows of a cell that takes an entry, and what a tally has then.
-use Rattle.std.proofs.Common.{◌≡◌, ℕ, ◌+◌, ◌-◌, ◌<◌, ◌==◌, not, Bool, true, false, cond, List, [], ◌∷◌, Contains, Some, IfOk, Result, Ok, Err, slice_get, refl, ap, sym, ◌∙◌, subst, arith, eq-eqb}
+use Rattle.std.proofs.Common.{◌≡◌, ℕ, ◌+◌, ◌-◌, ◌<◌, ◌≤◌, ◌==◌, not, Bool, true, false, cond, List, [], ◌∷◌, Contains, Some, IfOk, Result, Ok, Err, slice_get, refl, ap, sym, ◌∙◌, subst, arith, eq-eqb}
 use mathlib.Core.List.{IsPrefix}
 use Rattle.std.proofs.lemmas.List.Sums.{sum_by-cons}
 use Rattle.cj_model.specs.declared.request.Act.{Act}
@@ -24,7 +24,10 @@ use Rattle.cj_replica.specs.Logged.{IsLoggedOutcome}
 use Rattle.cj_replica.specs.Seated.{SeatedCell, view_after_entry}
 use Rattle.cj_replica.proofs.Longer.{outcome_longer}
 use Rattle.cj_tally.specs.Tallies.{IsReportOf}
+use Rattle.cj_cluster.specs.declared.moves.Did.TheVariants as did
+use Rattle.cj_locked_cell.specs.Asking.{NotesFault}
 use Rattle.cj_locked_cell.specs.Taking.{report_of, NotesReport, ReportsEntry}
+use Rattle.cj_locked_cell.proofs.Asking.{notes_fault}
 
 -- who has no part in an act has none with no transaction begun
 takes_less : (p : Placement) (b : ℕ) (begun : List ℕ) (tx : ℕ) (a : Act) → takes_part p b begun tx a ≡ false → takes_part p b [] tx a ≡ false
@@ -78,3 +81,13 @@ module _ (tells : Bool) (p : Placement) (x y : SeatedCell) (n : ℕ) (e : Entry)
 
   pub reports_entry : ReportsEntry tells p n e w x.state.b (report_of r)
   reports_entry = let of = reported r refl in record { noted = of.0; right = of.1 }
+
+  -- after a failure the pass has a fault more noted than it had before the cell was told
+  pub entry_failed : (u : SeatView) → ((k : ℕ) → Contains u.fault_notes (x.state.b, k) → k ≤ x.view.faults) → Contains w.fault_notes (y.state.b, y.view.faults) → report_of r ≡ did.Failed → NotesFault x.state.b u w
+  entry_failed u heard told is = by r refl is
+    where
+      by : (q : Result Caught CellError) → r ≡ q → report_of q ≡ did.Failed → NotesFault x.state.b u w
+      by (Ok Skipped) same is = cc is
+      by (Ok (Did o)) same is = cc is
+      by (Err Failed) same is = notes_fault x.state.b u w x.view.faults y.view.faults heard (ap (λ (z : SeatView). z.faults) (seat ∙ ap (view_after_entry x.state.b n x.view) same)) (subst (λ b. Contains w.fault_notes (b, y.view.faults)) takes.b told)
+      by (Err Starved) same is = cc is

@@ -1,22 +1,25 @@
 //! A cell behind its lock.
 
-ghost use Rattle.std.specs.Prelude.{◌≡◌, ◌≢◌, ◌-◌, ◌<◌, ℕ, List, true, length, Some, Err, slice_get, Contains, IfSome};
+ghost use Rattle.std.specs.Prelude.{◌≡◌, ◌≢◌, ◌-◌, ◌<◌, ◌≤◌, ℕ, List, true, length, Some, None, Ok, Err, slice_get, Contains, IfSome};
 ghost use mathlib.Core.List.{IsPrefix};
 ghost use Rattle.cj_model.specs.declared.request.Request.TheVariants as request;
 ghost use Rattle.cj_model.specs.Sql.WrittenRequests.{IsWritten};
 ghost use Rattle.cj_model.specs.declared.limits.TheConstants.{BACKEND_LIMIT};
 ghost use Rattle.cj_model.specs.Cluster.Placements.{part};
+ghost use Rattle.cj_model.specs.Database.Storable.{IsStorable};
 ghost use Rattle.cj_cluster.specs.declared.event.Event.{Event};
 ghost use Rattle.cj_cluster.specs.History.Histories.{database_after, is_enabled, is_free, log};
 ghost use Rattle.cj_cluster.specs.History.Legality.{IsLegal};
 ghost use Rattle.cj_board.specs.Seats.{front, pass_view};
 ghost use Rattle.cj_place.specs.Layouts.{placement_of};
-ghost use Rattle.cj_replica.specs.Cells.{GivesContents, ReadsAnswer};
-ghost use Rattle.cj_locked_cell.specs.Asking.{GivesPart};
+ghost use Rattle.cj_replica.specs.Cells.{GivesContents, LoadsDatabase, ReadsAnswer};
+ghost use Rattle.cj_locked_cell.specs.Asking.{GivesPart, NotesFault};
+ghost use Rattle.cj_locked_cell.specs.Loading.{IsLoaded, IsStandOf, LoadsOut, Stands};
 ghost use Rattle.cj_pass.specs.Passes.{HasNotedMore};
 ghost use Rattle.cj_locked_cell.specs.Answering.{IsReadAnswer};
 ghost use Rattle.cj_locked_cell.specs.Taking.{report_of, CarriesOutEntry, ReportsEntry};
 
+use crate::stand::{SeenOut, Stand};
 use cj_backend::Backend;
 use cj_cluster::Did;
 use cj_model::{Asked, Db, Entry, Select, Text};
@@ -76,6 +79,7 @@ impl<J: Naming, B: Backend> LockedCell<J, B> {
         ensures legal { IsLegal (front pass.new.seat) }
         ensures backend { result.0 < BACKEND_LIMIT }
         ensures reports { ReportsEntry B.tells (placement_of J.layout) n e.now (pass_view pass.new.seat) result.0 result.1 }
+        ensures fault { result.1 ≡ Did.Failed → NotesFault result.0 (pass_view pass.old.seat) (pass_view pass.new.seat) }
         ensures number { result.0 ≡ self.old.cell.state.b }
         ensures carried { self.old.cell.state.position ≡ Some (n - 1) → CarriesOutEntry self.old.cell.state n e.now login.now result.1 self.new.cell.state }
         ensures elsewhere { self.old.cell.state.position ≢ Some (n - 1) → (result.1 ≡ Did.Starved) × (self.new.cell.state ≡ self.old.cell.state) }
@@ -106,9 +110,11 @@ impl<J: Naming, B: Backend> LockedCell<J, B> {
         requires number { 0 < n }
         requires stands { self.old.cell.state.position ≡ Some (n - 1) }
         requires entry { slice_get (log self.old.cell.view.front) (n - 1) ≡ Some e.now }
+        requires heard { (k : ℕ) → Contains (pass_view pass.old.seat).fault_notes (self.old.cell.state.b, k) → k ≤ self.old.cell.view.faults }
         ensures more { HasNotedMore (pass_view pass.old.seat) (pass_view pass.new.seat) }
         ensures legal { IsLegal (front pass.new.seat) }
         ensures reports { ReportsEntry B.tells (placement_of J.layout) n e.now (pass_view pass.new.seat) self.old.cell.state.b result }
+        ensures fault { result ≡ Did.Failed → NotesFault self.old.cell.state.b (pass_view pass.old.seat) (pass_view pass.new.seat) }
         ensures carried { CarriesOutEntry self.old.cell.state n e.now login.now result self.new.cell.state }
     {
         let caught = self.cell.catch_up(&board.board, n, e, login);
@@ -200,15 +206,90 @@ impl<J: Naming, B: Backend> LockedCell<J, B> {
         ensures legal { IsLegal (front pass.new.seat) }
         ensures is { (result.0 ≡ self.old.cell.state.b) × (result.1 ≡ self.old.cell.state.position) }
         ensures noted { IfSome result.1 (λ n. Contains (pass_view pass.new.seat).position_notes (result.0, n)) }
+        ensures within { IfSome result.1 (λ n. n ≤ length (log (front pass.new.seat))) }
         ensures seen { IsPrefix self.new.cell.view.front (front pass.new.seat) }
         ensures stands { (m : List Event) → IsPrefix m (front pass.old.seat) → is_free m ≡ true → is_enabled m result.0 ≡ true → length (log (front pass.new.seat)) ≡ length (log m) → result.1 ≡ Some (length (log m)) }
         ensures state { self.new.cell.state ≡ self.old.cell.state }
     {
         self.cell.brief(&board.board, &mut pass.seat);
+        self.cell.legal();
         let b = self.cell.number();
         let position = self.cell.position();
         self.cell.report(&board.board, &mut pass.seat);
         (b, position)
+    }
+
+    /// Looks where backend `b` stands, if this is its cell. The pass has heard of it then.
+    pub fn stand(&mut self, board: &NamedBoard<J>, pass: &mut Pass<J>, b: u8) -> Stand
+        ensures more { HasNotedMore (pass_view pass.old.seat) (pass_view pass.new.seat) }
+        ensures legal { IsLegal (front pass.new.seat) }
+        ensures stands { Stands b (pass_view pass.new.seat) result }
+        ensures is { IsStandOf self.old.cell.state b result }
+        ensures state { self.new.cell.state ≡ self.old.cell.state }
+    {
+        let (number, position) = self.look(board, pass);
+        if number != b {
+            return Stand::Elsewhere;
+        }
+        match position {
+            Some(n) => Stand::At(n),
+            None => Stand::Out(SeenOut { b }),
+        }
+    }
+
+    /// Has backend `b`, if this is its cell and it is out, hold its part of the database after the first `position`
+    /// entries of the log. False if it is not out. The pass has heard of it then.
+    ///
+    /// `Failed` counts a fault. After an error the backend is still out. A cell of another backend answers that it ran
+    /// out of memory, in a branch that never runs.
+    pub fn load(
+        &mut self,
+        board: &NamedBoard<J>,
+        pass: &mut Pass<J>,
+        b: u8,
+        db: Db,
+        position: u64,
+    ) -> Result<bool, CellError>
+        requires storable { IsStorable db }
+        requires within { position ≤ length (log (front pass.old.seat)) }
+        requires right { B.tells ≡ true → db ≡ part (placement_of J.layout) b (database_after (log (front pass.old.seat)) position) }
+        ensures more { HasNotedMore (pass_view pass.old.seat) (pass_view pass.new.seat) }
+        ensures legal { IsLegal (front pass.new.seat) }
+        ensures loaded { IsLoaded b position (pass_view pass.old.seat) (pass_view pass.new.seat) result }
+        ensures loads { self.old.cell.state.b ≡ b → self.old.cell.state.position ≡ None → LoadsOut B.tells self.old.cell.state db position result self.new.cell.state }
+        ensures stays { (self.old.cell.state.b ≡ b → self.old.cell.state.position ≢ None) → self.new.cell.state ≡ self.old.cell.state }
+    {
+        match self.stand(board, pass, b) {
+            Stand::Out(_) => self.load_out(board, pass, db, position),
+            Stand::At(_) => Ok(false),
+            Stand::Elsewhere => Err(CellError::Starved),
+        }
+    }
+
+    /// Has the backend, which is out, hold this part of the database. True if it does then.
+    fn load_out(
+        &mut self,
+        board: &NamedBoard<J>,
+        pass: &mut Pass<J>,
+        db: Db,
+        position: u64,
+    ) -> Result<bool, CellError>
+        requires out { self.old.cell.state.position ≡ None }
+        requires storable { IsStorable db }
+        requires within { position ≤ length (log (front pass.old.seat)) }
+        requires right { B.tells ≡ true → db ≡ part (placement_of J.layout) self.old.cell.state.b (database_after (log (front pass.old.seat)) position) }
+        ensures more { HasNotedMore (pass_view pass.old.seat) (pass_view pass.new.seat) }
+        ensures legal { IsLegal (front pass.new.seat) }
+        ensures loaded { IsLoaded self.old.cell.state.b position (pass_view pass.old.seat) (pass_view pass.new.seat) result }
+        ensures loads { LoadsOut B.tells self.old.cell.state db position result self.new.cell.state }
+    {
+        self.cell.brief(&board.board, &mut pass.seat);
+        let loaded = self.cell.load(&board.board, db, position);
+        self.cell.report(&board.board, &mut pass.seat);
+        match loaded {
+            Ok(()) => Ok(true),
+            Err(error) => Err(error),
+        }
     }
 
     /// Lends the backend.

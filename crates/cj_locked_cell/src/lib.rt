@@ -9,5 +9,7 @@
 #![tactic(auto)]
 
 mod cell;
+mod stand;
 
 pub use cell::LockedCell;
+pub use stand::{SeenOut, Stand};

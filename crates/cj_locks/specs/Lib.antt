@@ -1,2 +1,4 @@
+pub mod Dumping
 pub mod Reading
+pub mod Restoring
 pub mod Writing

@@ -1,15 +1,30 @@
 //! The book and the cells, each behind its lock.
 
-ghost use Rattle.std.specs.Prelude.{◌≡◌, false, length, is_none};
+ghost use Rattle.std.specs.Prelude.{◌≡◌, ◌<◌, List, true, false, length, None, is_none};
 ghost use Rattle.std.specs.Sync.Mutex.{mutex_guard_value};
+ghost use mathlib.Core.List.{IsPrefix};
+ghost use Rattle.cj_model.specs.declared.limits.TheConstants.{BACKEND_LIMIT};
+ghost use Rattle.cj_model.specs.Cluster.Masks.{in_mask};
+ghost use Rattle.cj_cluster.specs.declared.event.Event.{Event};
+ghost use Rattle.cj_cluster.specs.History.Histories.{is_enabled, is_free, log};
+ghost use Rattle.cj_cluster.specs.History.Legality.{IsLegal};
+ghost use Rattle.cj_place.specs.Layouts.{placement_of};
+ghost use Rattle.cj_board.specs.Seats.{front, pass_view};
+ghost use Rattle.cj_pass.specs.Passes.{HasNotedMore};
+ghost use Rattle.cj_locked_cell.specs.Asking.{GivesPart};
+ghost use Rattle.cj_locked_cell.specs.Loading.{Stands};
+ghost use Rattle.cj_locked.specs.Auditing.{HoldsTurn, IsHeldOver};
+ghost use Rattle.cj_locked.specs.Turns.{turn_amount};
 
 use cj_auth::Accounts;
 use cj_backend::Backend;
-use cj_locked::LockedBook;
-use cj_locked_cell::LockedCell;
+use cj_locked::{LockedBook, Turn};
+use cj_locked_cell::{LockedCell, Stand};
+use cj_model::{Db, has_bit};
 use cj_outside::Store;
-use cj_pass::{NamedBoard, Naming};
+use cj_pass::{NamedBoard, Naming, Pass};
 use cj_place::Placement;
+use cj_replica::CellError;
 use std::alloc::Global;
 use std::sync::{Condvar, Mutex, MutexGuard, Wait};
 
@@ -50,5 +65,79 @@ impl<J: Naming, B: Backend, S: Store + Drop> Locks<J, B, S> {
                 ensures { result ≡ is_none book.new.log }
             { book.is_taken() },
         )
+    }
+
+    /// Gives the turn back, and wakes those who wait for it.
+    pub fn give_back<R: Wait>(&self, rt: &R, pass: &mut Pass<J>, turn: Turn<J, S>)
+        requires holds { HoldsTurn S.tells S.faults (front pass.old.seat) turn.share.amount turn.log }
+        ensures held { IsHeldOver (front pass.old.seat) (front pass.new.seat) }
+        ensures since { (m H : List Event) → turn.share.amount ≡ turn_amount m None → is_free m ≡ true → IsPrefix m H → IsPrefix H (front pass.old.seat) → IsHeldOver H (front pass.new.seat) }
+        ensures more { HasNotedMore (pass_view pass.old.seat) (pass_view pass.new.seat) }
+        ensures legal { IsLegal (front pass.new.seat) }
+    {
+        self.book.lock(rt).give_back(&self.board, pass, turn);
+        self.turn_back.notify_one();
+        self.settled.notify_all();
+    }
+
+    /// Returns how many entries the log has.
+    pub(crate) fn log_length<R: Wait>(&self, rt: &R, pass: &mut Pass<J>) -> u64
+        ensures length { result ≡ length (log (front pass.new.seat)) }
+        ensures more { HasNotedMore (pass_view pass.old.seat) (pass_view pass.new.seat) }
+        ensures legal { IsLegal (front pass.new.seat) }
+    {
+        let mut book = self.book.lock(rt);
+        book.tell(&self.board, pass);
+        book.length()
+    }
+
+    /// Whether the mask has the backend.
+    pub(crate) fn is_in(&self, mask: u32, b: u8) -> bool
+        requires below { b < length J.layout.names }
+        ensures is { result ≡ in_mask mask b }
+        ensures few { b < BACKEND_LIMIT }
+    {
+        // There are not too many backends, so a mask can have each.
+        let _ = self.placement.count();
+        has_bit(mask, b)
+    }
+
+    /// Returns whether a backend is enabled.
+    pub(crate) fn is_enabled<R: Wait>(&self, rt: &R, pass: &mut Pass<J>, b: u8) -> bool
+        requires below { b < length J.layout.names }
+        ensures is { result ≡ is_enabled (front pass.new.seat) b }
+        ensures more { HasNotedMore (pass_view pass.old.seat) (pass_view pass.new.seat) }
+        ensures legal { IsLegal (front pass.new.seat) }
+    {
+        let enabled = self.book.lock(rt).enabled(&self.board, pass);
+        self.is_in(enabled, b)
+    }
+
+    /// Looks where a backend stands.
+    pub(crate) fn stand<R: Wait>(&self, rt: &R, pass: &mut Pass<J>, b: u8) -> Stand
+        requires below { b < length J.layout.names }
+        ensures stands { Stands b (pass_view pass.new.seat) result }
+        ensures more { HasNotedMore (pass_view pass.old.seat) (pass_view pass.new.seat) }
+        ensures legal { IsLegal (front pass.new.seat) }
+    {
+        self.cells[b as usize].lock(rt).stand(&self.board, pass, b)
+    }
+
+    /// Asks backend `b` for all that it holds, if it stands at position `n`.
+    pub fn contents_at<R: Wait>(
+        &self,
+        rt: &R,
+        pass: &mut Pass<J>,
+        b: u8,
+        n: u64,
+    ) -> Result<Db, CellError>
+        requires below { b < length J.layout.names }
+        ensures gives { GivesPart B.tells (placement_of J.layout) b n (pass_view pass.old.seat) (pass_view pass.new.seat) result }
+        ensures more { HasNotedMore (pass_view pass.old.seat) (pass_view pass.new.seat) }
+        ensures legal { IsLegal (front pass.new.seat) }
+    {
+        self.cells[b as usize]
+            .lock(rt)
+            .contents(&self.board, pass, b, n)
     }
 }

@@ -5,6 +5,7 @@ use Rattle.cj_cluster.specs.History.Histories.{log}
 use Rattle.cj_board.specs.Seats.{front, pass_view}
 use Rattle.cj_board.specs.Views.{pass_without_tokens}
 use Rattle.cj_book.specs.Books.{BookState}
+use Rattle.cj_locked.proofs.Changing.{heard_notes}
 use Rattle.cj_locked.proofs.Ending.{same_counted}
 use Rattle.cj_locked.proofs.Holding.{given_back, held_over, held_since}
 use Rattle.cj_pass.proofs.Passes.{noted_joined}
@@ -40,3 +41,6 @@ returns-clause-since g c =
 
 pub returns-clause-more : goal.returns-clause-more
 returns-clause-more g c = noted_joined (pass_view c.args.pass.now.seat) (pass_without_tokens c.tell.new.self.view) (pass_view c.tell.new.p) c.tell.ensures.pass c.tell.ensures.longer
+
+pub returns-clause-heard : goal.returns-clause-heard
+returns-clause-heard g c = heard_notes c.self.inside.book.view (pass_view c.args.pass.now.seat) c.tell.new.self.view c.tell.ensures.book

@@ -7,6 +7,9 @@ use Rattle.cj_book.specs.Events.{finished_as, marker_finished}
 use Rattle.cj_book.specs.declared.pending.Pending.TheVariants as pending
 use Rattle.cj_locked.specs.Marking.{MarksAt}
 use Rattle.cj_locked.specs.Turns.{turn_amount}
+use mathlib.Core.List.{IsPrefix}
+use Rattle.cj_locked.specs.Auditing.{IsHeldOver}
+use Rattle.cj_locked.proofs.Holding.{over_since}
 use Rattle.cj_locked.proofs.Marking.{amount_marked, amount_unmarked, mark_follows, mark_fresh, mark_idle, mark_pending, mark_uncounted, marked_gives, marked_layout, marks_ok}
 use Rattle.cj_locked.proofs.Fresh.{fresh_marked}
 use Rattle.cj_locked.proofs.Noting.{keeps_event, still_noted}
@@ -84,3 +87,15 @@ returns-in-Ok-clause-marks g c =
     let answer : finished_as c.args.appended k ≡ Ok c.in-Ok.number = sym c.finish_marker.ensures.answer ∙ c.in-Ok.is in
     subst (λ (m : List Event). MarksAt m c.args.name.now c.args.b (Ok c.in-Ok.number) c.finish_marker.new.self.state.history) (sym before)
     (marks_ok old c.args.name.now c.args.b c.args.appended c.in-Ok.number c.finish_marker.new.self.state.history answer (mark_fresh g.S.Store.tells g.S.Store.faults c.args.self.now.book.state.history c.args.name.now c.args.b c.args.turn.share.amount c.args.turn.log c.args.appended c.requires.holds c.self.inside.book.state before c.self.inside.book.pending whole) (ap (λ (x : BookState). x.history) c.finish_marker.ensures.state))
+
+pub returns-in-Ok-clause-over : goal.returns-in-Ok-clause-over
+returns-in-Ok-clause-over g c m F turn free begins longer =
+    let before : c.args.self.now.book.state.history ≡ c.self.inside.book.state.history = search rules in
+    let whole : c.args.turn.share.amount ≡ turn_amount c.self.inside.book.state.history c.self.inside.book.pending = c.audit.ensures.whole ∙ c.self.invariant.counted in
+    subst (IsHeldOver F) (sym before) (over_since (Some pending.Marker) c.self.inside.book.pending m F c.self.inside.book.state.history c.args.turn.share.amount turn free begins (subst (IsPrefix F) before longer) whole)
+
+pub returns-in-Err-clause-over : goal.returns-in-Err-clause-over
+returns-in-Err-clause-over g c m F turn free begins longer =
+    let before : c.args.self.now.book.state.history ≡ c.self.inside.book.state.history = search rules in
+    let whole : c.args.turn.share.amount ≡ turn_amount c.self.inside.book.state.history c.self.inside.book.pending = c.audit.ensures.whole ∙ c.self.invariant.counted in
+    subst (IsHeldOver F) (sym before) (over_since (Some pending.Marker) c.self.inside.book.pending m F c.self.inside.book.state.history c.args.turn.share.amount turn free begins (subst (IsPrefix F) before longer) whole)

@@ -8,6 +8,7 @@ use Rattle.cj_cluster.proofs.Pushed.{prefix_trans}
 use Rattle.cj_pass.specs.Passes.{HasNotedMore}
 use Rattle.cj_replica.specs.Cells.{CellState}
 use Rattle.cj_locked_cell.proofs.Asking.{stands_at_end, stands_noted}
+use Rattle.cj_locked_cell.proofs.Loading.{stands_within}
 use Rattle.cj_pass.proofs.Passes.{noted_joined}
 use Rattle.cj_locked_cell.proofs.cell.LockedCell.look.Goals as goal
 
@@ -29,3 +30,7 @@ returns-clause-stands g c m begins free enabled same =
     let at : is_enabled m x.state.b ≡ true = subst (λ (b : ℕ). is_enabled m b ≡ true) c.number-b.ensures.number enabled in
     let told = prefix_trans m (front c.args.pass.now.seat) x.view.front begins c.brief.ensures.seen.0 in
     c.position-position.ensures ∙ stands_at_end x x.state m (front c.report.new.pass) (length (log m)) c.brief.ensures.stands refl told c.report.ensures.seen free at refl same
+
+pub returns-clause-within : goal.returns-clause-within
+returns-clause-within g c =
+    stands_within c.brief.new.self.state.position c.position-position.result c.brief.new.self.view.front (front c.report.new.pass) c.position-position.ensures c.report.ensures.seen c.legal.ensures.within
