@@ -6,9 +6,13 @@ use crate::steps::Step;
 use std::test::Fail;
 
 const NOT_ENABLED: Result<u64, &str> = Err("the backend is not enabled");
+
 const NAME_TAKEN: Result<u64, &str> = Err("a dump or a marker has the name already");
+
 const LAST_HOST: Result<u64, &str> = Err("the backend is the last enabled host of a table");
+
 const BACKEND_FAILED: Result<u64, &str> = Err("backend 0 failed");
+
 const STORE_FAILED: Result<u64, &str> = Err("the store of the dumps failed");
 
 const CREATE: &str = "CREATE TABLE t (k INTEGER PRIMARY KEY)";

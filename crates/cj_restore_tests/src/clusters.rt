@@ -35,7 +35,12 @@ fn name(rt: &impl Abort, text: &str) -> Name {
 }
 
 /// Two backends, and which tables each has.
-fn placement(rt: &impl Abort, alloc: Global, level: Level, rows: PlaceRows) -> Result<Placement, NoMemory> 
+fn placement(
+    rt: &impl Abort,
+    alloc: Global,
+    level: Level,
+    rows: PlaceRows,
+) -> Result<Placement, NoMemory>
     ensures { IfOk result (λ placement. length placement.names ≡ 2) }
 {
     let names = ListOf::from_vec(Vec::from_array(alloc, [name(rt, "b0"), name(rt, "b1")])?);
@@ -150,7 +155,15 @@ fn play_at<J: Naming + Send + Sync, B: Backend + Drop + Send, R: Threads + Wait 
         panic!(rt; "no session")
     };
     let mut shelf = shelf(rt, alloc, shelf_fails);
-    take_all(rt, alloc, &control, &mut pass, &mut caller, &mut shelf, steps)
+    take_all(
+        rt,
+        alloc,
+        &control,
+        &mut pass,
+        &mut caller,
+        &mut shelf,
+        steps,
+    )
 }
 
 /// Takes the steps at a new cluster over these backends, and an empty shelf whose store fails at these calls.

@@ -7,13 +7,19 @@ use std::sync::Arc;
 use std::test::Fail;
 
 const ALREADY_ENABLED: Result<u64, &str> = Err("the backend is enabled already");
+
 const NEEDS_DUMP: Result<u64, &str> = Err("the backend needs a dump");
+
 const DUMP_LACKS: Result<u64, &str> = Err("the dump lacks a table of the backend");
+
 const LAST_HOST: Result<u64, &str> = Err("the backend is the last enabled host of a table");
 
 const CREATE: &str = "CREATE TABLE t (k INTEGER PRIMARY KEY)";
+
 const CREATE_OTHER: &str = "CREATE TABLE u (k INTEGER PRIMARY KEY)";
+
 const FIRST_ROW: &str = "INSERT INTO t VALUES (1)";
+
 const SECOND_ROW: &str = "INSERT INTO t VALUES (2)";
 
 /// The lines of both backends, each with the rows 1 and 2.

@@ -2,11 +2,12 @@
 
 ghost use Rattle.std.specs.Prelude.{◌≡◌, ◌+◌, ◌<◌, ◌≤◌, length, IfOk, OnOk};
 ghost use Rattle.cj_model.specs.declared.limits.TheConstants.{REQUEST_LIMIT, USER_LIMIT};
+ghost use Rattle.cj_model.specs.Sql.WrittenRequests.{IsWritten};
 ghost use Rattle.cj_desk.specs.DeskStates.{desk_tx};
 
 use cj_desk::{Desk, Written};
 use cj_model::{Act, NoMemory, Reply, Request, Text, USER_LIMIT};
-use cj_sql::read;
+use cj_sql::{is_plain, read};
 use std::alloc::Global;
 use std::process::Abort;
 
@@ -19,6 +20,16 @@ fn ann(rt: &impl Abort, alloc: Global) -> Result<Text, NoMemory>
     };
     assert!(rt; user.len() <= USER_LIMIT);
     Ok(user)
+}
+
+/// The plain request that a text reads as.
+fn plain_request(rt: &impl Abort, alloc: Global, text: &str) -> Request
+    ensures { IsWritten result }
+{
+    match read(alloc, text.as_bytes()) {
+        Ok(request) if is_plain(&request) => request,
+        _ => panic!(rt; "{text}"),
+    }
 }
 
 /// Returns the number of the entry of a write that was done.
@@ -47,24 +58,24 @@ pub fn request<R: Abort, K: Desk<R>>(
     ensures counted { OnOk result ((K.state_of desk.new).requests ≡ (K.state_of desk.old).requests + 1) }
 {
     let user = ann(rt, alloc)?;
-    match read(alloc, text.as_bytes()) {
-        Ok(Request::Begin) => {
+    match plain_request(rt, alloc, text) {
+        Request::Begin => {
             assert!(rt; tx == 0);
             let begun = desk.write(rt, &user, 0, Act::Begin);
             Ok(number_of(rt, begun))
         }
-        Ok(Request::Commit) => {
+        Request::Commit => {
             assert!(rt; tx > 0);
             let committed = desk.write(rt, &user, tx, Act::Commit);
             number_of(rt, committed);
             Ok(0)
         }
-        Ok(Request::Write(write)) => {
+        Request::Write(write) => {
             let written = desk.write(rt, &user, tx, Act::Write(write));
             number_of(rt, written);
             Ok(tx)
         }
-        Ok(Request::Create(create)) => {
+        Request::Create(create) => {
             let created = desk.write(rt, &user, 0, Act::Create(create));
             number_of(rt, created);
             Ok(tx)
