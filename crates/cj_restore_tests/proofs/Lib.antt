@@ -1,2 +1,2 @@
-mod Requests
 mod Shelved
+mod Transactions

@@ -1,7 +1,7 @@
 //! What a backup of a backend is answered, and what it leaves.
 
 use crate::clusters::{play, replicated};
-use crate::gates::{Flags, held};
+use crate::gates::{Flags, backend};
 use crate::steps::Step;
 use std::test::Fail;
 
@@ -20,8 +20,8 @@ const CREATE: &str = "CREATE TABLE t (k INTEGER PRIMARY KEY)";
 #[test]
 fn a_name_is_given_once(rt: HostRuntime) -> Result<(), Fail> {
     let alloc = rt.alloc();
-    let one = held(alloc, Vec::new(alloc), Flags::raised(alloc)?);
-    let other = held(alloc, Vec::new(alloc), Flags::raised(alloc)?);
+    let one = backend(alloc, Vec::new(alloc), Flags::raised(alloc)?);
+    let other = backend(alloc, Vec::new(alloc), Flags::raised(alloc)?);
     let steps = [
         Step::Ask(CREATE),
         Step::Checkpoint("c"),
@@ -40,8 +40,8 @@ fn a_name_is_given_once(rt: HostRuntime) -> Result<(), Fail> {
 #[test]
 fn each_table_keeps_an_enabled_host(rt: HostRuntime) -> Result<(), Fail> {
     let alloc = rt.alloc();
-    let one = held(alloc, Vec::new(alloc), Flags::raised(alloc)?);
-    let other = held(alloc, Vec::new(alloc), Flags::raised(alloc)?);
+    let one = backend(alloc, Vec::new(alloc), Flags::raised(alloc)?);
+    let other = backend(alloc, Vec::new(alloc), Flags::raised(alloc)?);
     let steps = [
         Step::Ask(CREATE),
         Step::Disable(1),
@@ -60,8 +60,8 @@ fn each_table_keeps_an_enabled_host(rt: HostRuntime) -> Result<(), Fail> {
 fn a_backup_that_fails_leaves_the_backend_disabled(rt: HostRuntime) -> Result<(), Fail> {
     let alloc = rt.alloc();
     let fails = Vec::from_array(alloc, [2])?;
-    let one = held(alloc, fails, Flags::raised(alloc)?);
-    let other = held(alloc, Vec::new(alloc), Flags::raised(alloc)?);
+    let one = backend(alloc, fails, Flags::raised(alloc)?);
+    let other = backend(alloc, Vec::new(alloc), Flags::raised(alloc)?);
     let steps = [
         Step::Ask(CREATE),
         Step::Backup(0, "d", BACKEND_FAILED),

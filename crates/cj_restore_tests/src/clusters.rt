@@ -126,7 +126,8 @@ fn started<B: Backend + Drop>(
 fn shelf(rt: &impl Abort, alloc: Global, fails: Vec<u64>) -> Shelf<MemStore>
     ensures { result.dumps ≡ [] }
 {
-    match Shelf::open(alloc, MemStore::new(Vec::new(alloc), fails)) {
+    let store = MemStore::new(Vec::new(alloc), fails);
+    match Shelf::open(alloc, store) {
         Ok(shelf) => shelf,
         Err(_) => panic!(rt; "the shelf is not opened"),
     }

@@ -94,7 +94,7 @@ impl Gate for Held {
 pub type HeldBackend = Gated<Flaky<MemBackend>, Held>;
 
 /// A backend that fails at these calls, and whose first write is held by these flags.
-pub fn held(alloc: Global, fails: Vec<u64>, flags: SharedFlags) -> HeldBackend
+pub fn backend(alloc: Global, fails: Vec<u64>, flags: SharedFlags) -> HeldBackend
     ensures { result.inner ≡ fresh_over fresh_state result.inner.fails }
 {
     let flaky = Flaky::new(MemBackend::new(alloc), ListOf::from_vec(fails));

@@ -1,7 +1,7 @@
 //! A backend that comes back: with no dump, by one, and while a session goes on.
 
 use crate::clusters::{partial, play, replicated};
-use crate::gates::{Flags, held};
+use crate::gates::{Flags, backend};
 use crate::steps::Step;
 use std::sync::Arc;
 use std::test::Fail;
@@ -28,8 +28,8 @@ const BOTH_ALIKE: &[u8] = b"b0 t base 2\n1\n2\nb1 t base 2\n1\n2\n";
 #[test]
 fn a_disabled_backend_takes_what_it_missed(rt: HostRuntime) -> Result<(), Fail> {
     let alloc = rt.alloc();
-    let one = held(alloc, Vec::new(alloc), Flags::raised(alloc)?);
-    let other = held(alloc, Vec::new(alloc), Flags::raised(alloc)?);
+    let one = backend(alloc, Vec::new(alloc), Flags::raised(alloc)?);
+    let other = backend(alloc, Vec::new(alloc), Flags::raised(alloc)?);
     let steps = [
         Step::Ask(CREATE),
         Step::Disable(1),
@@ -48,9 +48,9 @@ fn a_disabled_backend_takes_what_it_missed(rt: HostRuntime) -> Result<(), Fail> 
 #[test]
 fn a_backend_that_is_out_loads_the_dump_of_another(rt: HostRuntime) -> Result<(), Fail> {
     let alloc = rt.alloc();
-    let one = held(alloc, Vec::new(alloc), Flags::raised(alloc)?);
+    let one = backend(alloc, Vec::new(alloc), Flags::raised(alloc)?);
     let fails = Vec::from_array(alloc, [3])?;
-    let other = held(alloc, fails, Flags::raised(alloc)?);
+    let other = backend(alloc, fails, Flags::raised(alloc)?);
     let steps = [
         Step::Ask(CREATE),
         Step::Ask(FIRST_ROW),
@@ -72,8 +72,8 @@ fn a_backend_that_is_out_loads_the_dump_of_another(rt: HostRuntime) -> Result<()
 fn a_dump_has_each_table_of_the_backend(rt: HostRuntime) -> Result<(), Fail> {
     let alloc = rt.alloc();
     let fails = Vec::from_array(alloc, [3])?;
-    let one = held(alloc, fails, Flags::raised(alloc)?);
-    let other = held(alloc, Vec::new(alloc), Flags::raised(alloc)?);
+    let one = backend(alloc, fails, Flags::raised(alloc)?);
+    let other = backend(alloc, Vec::new(alloc), Flags::raised(alloc)?);
     let steps = [
         Step::Ask(CREATE),
         Step::Ask(CREATE_OTHER),
@@ -94,9 +94,9 @@ fn a_dump_has_each_table_of_the_backend(rt: HostRuntime) -> Result<(), Fail> {
 #[test]
 fn a_dump_keeps_drafts(rt: HostRuntime) -> Result<(), Fail> {
     let alloc = rt.alloc();
-    let one = held(alloc, Vec::new(alloc), Flags::raised(alloc)?);
+    let one = backend(alloc, Vec::new(alloc), Flags::raised(alloc)?);
     let fails = Vec::from_array(alloc, [4])?;
-    let other = held(alloc, fails, Flags::raised(alloc)?);
+    let other = backend(alloc, fails, Flags::raised(alloc)?);
     let steps = [
         Step::Ask(CREATE),
         Step::Ask("BEGIN"),
@@ -119,13 +119,13 @@ fn a_dump_keeps_drafts(rt: HostRuntime) -> Result<(), Fail> {
 fn a_session_is_answered_while_a_backend_takes_the_log(rt: HostRuntime) -> Result<(), Fail> {
     let alloc = rt.alloc();
     let flags = Flags::lowered(alloc)?;
-    let one = held(alloc, Vec::new(alloc), Flags::raised(alloc)?);
-    let other = held(alloc, Vec::new(alloc), Arc::try_clone(&flags)?);
+    let one = backend(alloc, Vec::new(alloc), Flags::raised(alloc)?);
+    let other = backend(alloc, Vec::new(alloc), Arc::try_clone(&flags)?);
     let steps = [
         Step::Ask(CREATE),
         Step::Disable(1),
         Step::Ask(FIRST_ROW),
-        Step::ReenableBeside(1, SECOND_ROW, &flags, Ok(3)),
+        Step::ReenableBeside(1, &flags, SECOND_ROW, 3),
         Step::Audit(BOTH_ALIKE),
     ];
     let placement = replicated(&rt, alloc)?;

@@ -1,6 +1,7 @@
 //! The steps of the tests: what one session asks for, and what an administrator does, each with what it is to give.
 
-ghost use Rattle.std.specs.Prelude.{◌≡◌, ◌≢◌, ◌<◌, [], All, IfOk, OnOk};
+ghost use Rattle.std.specs.Prelude.{◌≡◌, ◌≢◌, ◌+◌, ◌<◌, ◌≤◌, [], All, IfOk, OnOk};
+ghost use mathlib.Core.List.{IsPrefix};
 ghost use Rattle.cj_model.specs.declared.limits.TheConstants.{REQUEST_LIMIT};
 ghost use Rattle.cj_board.specs.Seats.{front};
 ghost use Rattle.cj_desk.specs.DeskStates.{desk_tx};
@@ -12,7 +13,6 @@ use cj_backend::Backend;
 use cj_backup::{BackupError, backup};
 use cj_control::{Control, Naming, Pass};
 use cj_desk::Desk;
-use cj_dump::Dump;
 use cj_model::{Name, NoMemory};
 use cj_outside::MemStore;
 use cj_replay::{ReplayError, reenable};
@@ -39,8 +39,9 @@ pub enum Step<'a> {
     Reenable(u8, Result<u64, &'a str>),
     /// A backend comes back by the dump of this name.
     ReenableBy(u8, &'a str, Result<u64, &'a str>),
-    /// A backend comes back while another session makes this request. They wait for each other by these flags.
-    ReenableBeside(u8, &'a str, &'a Flags, Result<u64, &'a str>),
+    /// A backend comes back at this position while another session makes this request. By these flags they wait for
+    /// each other.
+    ReenableBeside(u8, &'a Flags, &'a str, u64),
     /// All that the enabled backends hold is asked for.
     Audit(&'a [u8]),
 }
@@ -71,7 +72,7 @@ fn name(rt: &impl Abort, text: &str) -> Name
     name
 }
 
-/// Disables a backend.
+/// Disables a backend, which is enabled.
 fn disable<J: Naming, B: Backend + Drop, R: Wait + Abort>(
     rt: &R,
     control: &Control<J, B, MemStore>,
@@ -84,59 +85,85 @@ fn disable<J: Naming, B: Backend + Drop, R: Wait + Abort>(
     assert!(rt; control.disable(rt, pass, b) == Ok(()));
 }
 
-/// Backs a backend up. Each dump of the shelf may then be loaded, as before.
+/// Marks a checkpoint of this name, which no marker has.
+fn mark<J: Naming, B: Backend + Drop, R: Wait + Abort>(
+    rt: &R,
+    control: &Control<J, B, MemStore>,
+    pass: &mut Pass<J>,
+    text: &str,
+)
+    ensures { IsPrefix (front pass.old.seat) (front pass.new.seat) }
+{
+    let marked = control.checkpoint(rt, pass, &name(rt, text));
+    assert!(rt; marked.is_ok());
+}
+
+/// Asks for all that the enabled backends hold, and compares it.
+fn audit<J: Naming, B: Backend + Drop, R: Wait + Abort>(
+    rt: &R,
+    control: &Control<J, B, MemStore>,
+    pass: &mut Pass<J>,
+    lines: &[u8],
+)
+    ensures { IsPrefix (front pass.old.seat) (front pass.new.seat) }
+{
+    let Ok(text) = control.audit(rt, pass) else {
+        panic!(rt; "no audit")
+    };
+    assert!(rt; text.as_slice() == lines);
+}
+
+/// Backs a backend up. Each dump of the shelf may be loaded then, as before.
 fn back_up<J: Naming, B: Backend + Drop, R: Wait + Abort>(
     rt: &R,
     control: &Control<J, B, MemStore>,
     pass: &mut Pass<J>,
     shelf: &mut Shelf<MemStore>,
     b: u8,
-    name: &Name,
+    text: &str,
 ) -> Result<u64, BackupError>
-    requires named { name.now ≢ [] }
     requires right { All (IsRightDump B.tells (front pass.old.seat)) shelf.old.dumps }
     ensures right { All (IsRightDump B.tells (front pass.new.seat)) shelf.new.dumps }
 {
     assert!(rt; b < control.placement().count());
-    backup(rt, control, pass, b, name, shelf)
+    let name = name(rt, text);
+    backup(rt, control, pass, b, &name, shelf)
+}
+
+/// Has a backend come back with no dump.
+fn come_back<J: Naming, B: Backend + Drop, R: Wait + Abort>(
+    rt: &R,
+    control: &Control<J, B, MemStore>,
+    pass: &mut Pass<J>,
+    b: u8,
+) -> Result<u64, ReplayError>
+    ensures { IsPrefix (front pass.old.seat) (front pass.new.seat) }
+{
+    assert!(rt; b < control.placement().count());
+    reenable(rt, control, pass, b, None)
 }
 
 /// Has a backend come back by a dump of the shelf.
-fn reenable_by<J: Naming, B: Backend + Drop, R: Wait + Abort>(
+fn come_back_by<J: Naming, B: Backend + Drop, R: Wait + Abort>(
     rt: &R,
     control: &Control<J, B, MemStore>,
     pass: &mut Pass<J>,
     shelf: &mut Shelf<MemStore>,
     b: u8,
-    name: &Name,
+    text: &str,
 ) -> Result<u64, ReplayError>
     requires right { All (IsRightDump B.tells (front pass.old.seat)) shelf.old.dumps }
     ensures right { All (IsRightDump B.tells (front pass.new.seat)) shelf.new.dumps }
 {
     assert!(rt; b < control.placement().count());
-    let Ok(Some(dump)) = shelf.find(name) else {
+    let found = shelf.find(&name(rt, text));
+    let Ok(Some(dump)) = found else {
         panic!(rt; "no dump")
     };
     reenable(rt, control, pass, b, Some(dump))
 }
 
-/// Has a backend come back with no dump.
-fn reenable_alone<J: Naming, B: Backend + Drop, R: Wait + Abort>(
-    rt: &R,
-    alloc: Global,
-    control: &Control<J, B, MemStore>,
-    pass: &mut Pass<J>,
-    b: u8,
-    wanted: &Result<u64, &str>,
-) -> Result<(), NoMemory>
-    ensures { IsPrefix (front pass.old.seat) (front pass.new.seat) }
-{
-    assert!(rt; b < control.placement().count());
-    let given = reenable(rt, control, pass, b, None);
-    compare(rt, alloc, given, wanted)
-}
-
-/// Has a session of its own make a request once a backend's first write came, and tells that it was answered.
+/// Has a new session make a request once a backend's first write came, and tells that it was answered.
 fn ask_meanwhile<J: Naming, B: Backend + Drop, R: Wait + Abort>(
     rt: &R,
     alloc: Global,
@@ -144,21 +171,18 @@ fn ask_meanwhile<J: Naming, B: Backend + Drop, R: Wait + Abort>(
     pass: &mut Pass<J>,
     flags: &Flags,
     text: &str,
-) -> Result<(), NoMemory>
-    ensures { IsPrefix (front pass.old.seat) (front pass.new.seat) }
-{
+) -> Result<(), NoMemory> {
     let Ok(mut caller) = control.caller(rt, pass) else {
         panic!(rt; "no session")
     };
     flags.wait_for_write();
     request(rt, alloc, &mut caller, 0, text)?;
     flags.answer();
-    control.leave(rt, caller, pass);
     Ok(())
 }
 
-/// Has a backend come back in one thread, while a session makes a request in another.
-fn reenable_beside<
+/// Has a backend come back in one thread, while a new session makes a request in another.
+fn come_back_beside<
     J: Naming + Send + Sync,
     B: Backend + Drop + Send,
     R: Threads + Wait + Abort + Sync,
@@ -170,23 +194,24 @@ fn reenable_beside<
     b: u8,
     flags: &Flags,
     text: &str,
-    wanted: &Result<u64, &str>,
-) -> Result<(), NoMemory>
+) -> Result<Option<u64>, NoMemory>
     ensures { IsPrefix (front pass.old.seat) (front pass.new.seat) }
 {
+    let mut one = control.split(pass);
     let mut other = control.split(pass);
     let (back, asked) = thread::join(
         rt,
-        || reenable_alone(rt, alloc, control, &mut other, b, wanted),
-        || ask_meanwhile(rt, alloc, control, pass, flags, text),
+        || come_back(rt, control, &mut one, b).ok(),
+        || ask_meanwhile(rt, alloc, control, &mut other, flags, text),
     );
+    control.rejoin(pass, one);
     control.rejoin(pass, other);
-    back?;
-    asked
+    asked?;
+    Ok(back)
 }
 
-/// Takes a step of the administrator, and compares what it gives.
-fn take<J: Naming + Send + Sync, B: Backend + Drop + Send, R: Threads + Wait + Abort + Sync>(
+/// Takes a step at the cluster and the shelf, and compares what it gives.
+fn administer<J: Naming + Send + Sync, B: Backend + Drop + Send, R: Threads + Wait + Abort + Sync>(
     rt: &R,
     alloc: Global,
     control: &Control<J, B, MemStore>,
@@ -195,35 +220,73 @@ fn take<J: Naming + Send + Sync, B: Backend + Drop + Send, R: Threads + Wait + A
     step: &Step<'_>,
 ) -> Result<(), NoMemory>
     requires right { All (IsRightDump B.tells (front pass.old.seat)) shelf.old.dumps }
-    ensures right { OnOk result (All (IsRightDump B.tells (front pass.new.seat)) shelf.new.dumps) }
+    ensures right { All (IsRightDump B.tells (front pass.new.seat)) shelf.new.dumps }
 {
     match step {
-        Step::Ask(_) => {}
-        Step::Disable(b) => disable(rt, control, pass, *b),
+        Step::Ask(_) => Ok(()),
+        Step::Disable(b) => {
+            disable(rt, control, pass, *b);
+            Ok(())
+        }
         Step::Checkpoint(text) => {
-            assert!(rt; control.checkpoint(rt, pass, &name(rt, text)).is_ok());
+            mark(rt, control, pass, text);
+            Ok(())
+        }
+        Step::Audit(lines) => {
+            audit(rt, control, pass, lines);
+            Ok(())
         }
         Step::Backup(b, text, wanted) => {
-            let given = back_up(rt, control, pass, shelf, *b, &name(rt, text));
-            compare(rt, alloc, given, wanted)?;
+            let backed = back_up(rt, control, pass, shelf, *b, text);
+            compare(rt, alloc, backed, wanted)
         }
-        Step::Reenable(b, wanted) => reenable_alone(rt, alloc, control, pass, *b, wanted)?,
+        Step::Reenable(b, wanted) => {
+            let back = come_back(rt, control, pass, *b);
+            compare(rt, alloc, back, wanted)
+        }
         Step::ReenableBy(b, text, wanted) => {
-            let given = reenable_by(rt, control, pass, shelf, *b, &name(rt, text));
-            compare(rt, alloc, given, wanted)?;
+            let back = come_back_by(rt, control, pass, shelf, *b, text);
+            compare(rt, alloc, back, wanted)
         }
-        Step::ReenableBeside(b, text, flags, wanted) => {
-            reenable_beside(rt, alloc, control, pass, *b, flags, text, wanted)?;
+        Step::ReenableBeside(b, flags, text, position) => {
+            let back = come_back_beside(rt, alloc, control, pass, *b, flags, text);
+            assert!(rt; back? == Some(*position));
+            Ok(())
         }
-        Step::Audit(lines) => match control.audit(rt, pass) {
-            Ok(text) => assert!(rt; text.as_slice() == *lines),
-            Err(_) => panic!(rt; "no audit"),
-        },
     }
-    Ok(())
 }
 
-/// Takes the steps, each after the one before. A session that was just opened makes the requests.
+/// Takes a step, and returns the transaction that the session has then.
+fn take<
+    J: Naming + Send + Sync,
+    B: Backend + Drop + Send,
+    K: Desk<R>,
+    R: Threads + Wait + Abort + Sync,
+>(
+    rt: &R,
+    alloc: Global,
+    control: &Control<J, B, MemStore>,
+    pass: &mut Pass<J>,
+    desk: &mut K,
+    shelf: &mut Shelf<MemStore>,
+    tx: u64,
+    step: &Step<'_>,
+) -> Result<u64, NoMemory>
+    requires right { All (IsRightDump B.tells (front pass.old.seat)) shelf.old.dumps }
+    requires room { (K.state_of desk.old).requests < REQUEST_LIMIT }
+    requires open { tx ≡ desk_tx (K.state_of desk.old) }
+    ensures right { All (IsRightDump B.tells (front pass.new.seat)) shelf.new.dumps }
+    ensures open { IfOk result (λ later. later ≡ desk_tx (K.state_of desk.new)) }
+    ensures counted { OnOk result ((K.state_of desk.new).requests ≤ (K.state_of desk.old).requests + 1) }
+{
+    if let Step::Ask(text) = step {
+        return request(rt, alloc, desk, tx, text);
+    }
+    administer(rt, alloc, control, pass, shelf, step)?;
+    Ok(tx)
+}
+
+/// Takes the steps, each after the one before. A new session makes the requests, and each dump of the shelf may be loaded.
 pub fn take_all<
     J: Naming + Send + Sync,
     B: Backend + Drop + Send,
@@ -239,15 +302,13 @@ pub fn take_all<
     steps: &[Step<'_>],
 ) -> Result<(), NoMemory>
     requires right { All (IsRightDump B.tells (front pass.old.seat)) shelf.old.dumps }
-    requires new { ((K.state_of desk.old).requests ≡ 0) × (desk_tx (K.state_of desk.old) ≡ 0) }
+    requires unused { (K.state_of desk.old).requests ≡ 0 }
+    requires closed { desk_tx (K.state_of desk.old) ≡ 0 }
 {
     assert!(rt; steps.len() < 100);
     let mut tx = 0;
     for step in steps {
-        match step {
-            Step::Ask(text) => tx = request(rt, alloc, desk, tx, text)?,
-            _ => take(rt, alloc, control, pass, shelf, step)?,
-        }
+        tx = take(rt, alloc, control, pass, desk, shelf, tx, step)?;
     }
     Ok(())
 }
