@@ -286,7 +286,7 @@ fn take<
     Ok(tx)
 }
 
-/// Takes the steps, each after the one before. A new session makes the requests, and each dump of the shelf may be loaded.
+/// Takes the steps, each after the one before. A new session makes the requests. Each dump of the shelf may be loaded.
 pub fn take_all<
     J: Naming + Send + Sync,
     B: Backend + Drop + Send,
