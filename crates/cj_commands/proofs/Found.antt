@@ -1,7 +1,7 @@
 -- What the arguments of a line are found to be.
 use Rattle.std.proofs.Common.{◌≡◌, ◌∙◌, refl, sym, ap, subst, ℕ, true, List, ◌∷◌, ◌++◌, codes, Option, Some, None, Result, Ok, Err, inl, inr}
 use Rattle.std.specs.Prelude.{IsErrAnd}
-use Rattle.cj_commands.proofs.Common.{HasNoSpace, is_name, IsBackend, IsNumber, CutsWord, FindsValue, IsNumbered, IsNoBackend, AsksToBackup, AsksToEnable, AsksToShow, HasBackendAndName, IsLogRange, IsRange, IsReadAs, LacksNamed, LacksToEnable, Command, Unread, NoBackend, NoCommand}
+use Rattle.cj_commands.proofs.Common.{HasNoSpace, is_name, IsBackend, IsNumber, CutsWord, FindsValue, IsNumbered, IsNoBackend, AsksFor, AsksToBackup, AsksToEnable, AsksToShow, HasBackendAndName, IsLogRange, IsRange, IsReadAs, LacksAmong, LacksNamed, LacksToEnable, Command, Unread, NoBackend, NoCommand, Verb}
 use Rattle.cj_commands.proofs.Arguing.{range_one}
 use Rattle.cj_words.proofs.Cutting.{one_cut, cut_one, numbered_one}
 
@@ -86,3 +86,9 @@ lacking_of_enable names rest more (inr q) = q
 pub enable_behind : (names : List (List ℕ)) (rest : List ℕ) (e : Unread) (result : Result Command Unread) → (HasNoSpace rest → ⊥) → IsErrAnd result (λ x. x ≡ e) → IsReadAs (HasBackendAndName names rest) (LacksNamed names rest) (Err e) → IsReadAs (AsksToEnable names rest) (LacksToEnable names rest) result
 enable_behind names rest e result more is h =
     handed_on (HasBackendAndName names rest) (LacksNamed names rest) (AsksToEnable names rest) (LacksToEnable names rest) e result (λ c p. part_of_enable names rest c more p) inr (lacking_of_enable names rest more) is h
+
+-- ---- the arguments of a verb
+
+-- what was read for a verb was read for the verb that this is
+pub at_verb : (names : List (List ℕ)) (verb : Verb) (rest : List ℕ) (known : Verb) (result : Result Command Unread) → verb ≡ known → IsReadAs (AsksFor names known rest) (LacksAmong names known rest) result → IsReadAs (AsksFor names verb rest) (LacksAmong names verb rest) result
+at_verb names verb rest known result is h = subst (λ (v : Verb). IsReadAs (AsksFor names v rest) (LacksAmong names v rest) result) (sym is) h
