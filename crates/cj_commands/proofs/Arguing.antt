@@ -63,7 +63,7 @@ asked_one names Abort rest c d p q = p.2 ∙ ap command.Abort (number_one rest p
 
 -- ---- none if a backend is lacking
 
--- a word that is no backend's is none's name
+-- a word that names no backend isn't the name of one
 no_backend : (names : List (List ℕ)) (z : List ℕ) (b : ℕ) → IsNoBackend names z → IsBackend names z b → ⊥
 no_backend names z b none is = let same : None ≡ Some b = sym none.unnamed ∙ is.named in absurd (cc)
 
