@@ -1,5 +1,5 @@
 -- What follows a verb is of one command at most, and of none if it lacks a backend.
-use Rattle.std.proofs.Common.{◌≡◌, ◌∙◌, refl, sym, ap, subst, ℕ, List, ◌∷◌, ◌++◌, codes, Some, None, inl, inr}
+use Rattle.std.proofs.Common.{◌≡◌, ◌∙◌, refl, sym, ap, subst, ℕ, List, codes, Some, None, inl, inr}
 use Rattle.cj_commands.proofs.Common.{HasNoSpace, IsBackend, IsNoBackend, IsNamed, IsNumber, LacksNamed, IsLogRange, IsRange, AsksToShow, AsksToEnable, AsksFor, LacksAmong, LacksToEnable, Command, Verb, Abort, Backup, Checkpoint, Disable, Enable, Show}
 use Rattle.cj_commands.specs.declared.command.Command.TheVariants as command
 use Rattle.cj_words.proofs.Cutting.{no_space, one_cut, numbered_one, named_one}
