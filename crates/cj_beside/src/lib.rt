@@ -5,10 +5,12 @@
 //! backend and the store both do (`told_beside`). Faults, queries, logins and transactions stay visible.
 //! `beside` wraps the backends of a list.
 //!
-//! A new call of `cj_backend` needs a line in `src/beside.rt`. `proofs/Telling` has what a load tells, and
+//! A new call of `cj_backend` needs a line in `src/backend.rt`. `proofs/Wrapping` has what wrapped backends tell, and
 //! `proofs/Crossing` shows that threads may pass a `Beside` on where they may its backend.
 #![tactic(auto)]
 
-mod beside;
+mod backend;
+mod list;
 
-pub use beside::{Beside, beside};
+pub use backend::Beside;
+pub use list::beside;

@@ -1,10 +1,10 @@
 //! A backend that tells its contents only where a store does, over another backend.
 
-ghost use Rattle.std.specs.Prelude.{◌≡◌, map, length, IfOk};
+ghost use Rattle.std.specs.Prelude.{◌≡◌};
 ghost use Rattle.cj_beside.specs.Besides.{told_beside};
 
 use cj_backend::{Backend, BackendError, Counts};
-use cj_model::{Asked, Create, Db, ListOf, Name, NoMemory, Outcome, Select, Text, Write};
+use cj_model::{Asked, Create, Db, Name, Outcome, Select, Text, Write};
 use cj_outside::Store;
 use std::marker::PhantomData;
 
@@ -102,24 +102,4 @@ impl<B: Backend, D: Store> Backend for Beside<B, D> {
     fn arm(&mut self) {
         self.inner.arm();
     }
-}
-
-/// Wraps each backend of a list, in order, without a call of any. Out of memory loses all of them.
-pub fn beside<B: Backend + Drop, D: Store>(
-    backends: ListOf<B>,
-) -> Result<ListOf<Beside<B, D>>, NoMemory>
-    ensures count { IfOk result (λ made. length made ≡ length backends) }
-    ensures told { IfOk result (λ made. map ⟦<Beside<B, D> as Backend>⟧.told made ≡ map (λ b. told_beside D.tells (B.told b)) backends) }
-    ensures begun { IfOk result (λ made. map ⟦<Beside<B, D> as Backend>⟧.begun made ≡ map B.begun backends) }
-    ensures faults { IfOk result (λ made. map ⟦<Beside<B, D> as Backend>⟧.faults made ≡ map B.faults backends) }
-    ensures asks { IfOk result (λ made. map ⟦<Beside<B, D> as Backend>⟧.asks made ≡ map B.asks backends) }
-    ensures login { IfOk result (λ made. map ⟦<Beside<B, D> as Backend>⟧.login made ≡ map B.login backends) }
-    ensures arming { IfOk result (λ made. map ⟦<Beside<B, D> as Backend>⟧.arming made ≡ map B.arming backends) }
-{
-    let backends = backends.into_vec();
-    let mut made = Vec::with_capacity(*backends.allocator(), backends.len())?;
-    for backend in backends {
-        made.push(Beside::new(backend))?;
-    }
-    Ok(ListOf::from_vec(made))
 }
