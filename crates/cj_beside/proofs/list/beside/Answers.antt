@@ -1,10 +1,11 @@
-use Rattle.std.proofs.Common.{rules}
+use Rattle.std.proofs.Common.{arith}
+use Rattle.std.proofs.lemmas.Grind.{common_steps}
 use Rattle.cj_beside.specs.Besides.{told_beside}
 use Rattle.cj_beside.proofs.Wrapping.{of_wrapped}
 use Rattle.cj_beside.proofs.list.beside.Goals as goal
 
 pub returns-clause-inner : goal.returns-clause-inner
-returns-clause-inner g c = search rules
+returns-clause-inner g c = grind (arith, common_steps)
 
 pub returns-clause-told : goal.returns-clause-told
 returns-clause-told g c = of_wrapped _ (λ b. told_beside g.D.Store.tells (g.B.Backend.told b)) _ _ (returns-clause-inner g c)
