@@ -1,2 +1,0 @@
-mod Shelved
-mod Transactions
