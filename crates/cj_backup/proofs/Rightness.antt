@@ -16,14 +16,14 @@ use Rattle.cj_cluster.proofs.TransactionLaws.{fit_take, legal_fit}
 use Rattle.cj_dump.specs.declared.dump.Dump.{Dump}
 use Rattle.cj_dump.proofs.Cuts.{taken_covers}
 use Rattle.cj_place.specs.Layouts.{Layout, placement_of}
-use Rattle.cj_locks.specs.Dumping.{IsDumpOf}
+use Rattle.cj_locks.specs.Dumping.{IsTakenDump}
 use Rattle.cj_locks.specs.Restoring.{IsRightDump}
 
 -- each table has a name
 tables_named : (db : List Slot) → IsStorable db → All (λ (s : Slot). is_name (table_of s) ≡ true) db
 tables_named db is = All-weaker IsStorableSlot (λ (s : Slot). is_name (table_of s) ≡ true) (λ s slot. slot.base.table.0) db is.slots
 
-pub dump_is_right : (tells : Bool) (l : Layout) (m F : List Event) (name : List ℕ) (b : ℕ) (d : Dump) → b < length l.names → IsLegal F → IsPrefix m F → IsDumpOf tells l m name b d → IsRightDump tells F d
+pub dump_is_right : (tells : Bool) (l : Layout) (m F : List Event) (name : List ℕ) (b : ℕ) (d : Dump) → b < length l.names → IsLegal F → IsPrefix m F → IsTakenDump tells l m name b d → IsRightDump tells F d
 dump_is_right tells l m F name b d below legal longer is =
     let more : IsPrefix (log m) (log F) = log-prefix m F longer in
     let inside : d.position ≤ length (log m) = subst (λ (n : ℕ). n ≤ length (log m)) (sym is.position) (omega arith) in

@@ -9,7 +9,7 @@ use Rattle.cj_board.specs.declared.view.SeatView.{SeatView}
 use Rattle.cj_dump.specs.declared.dump.Dump.{Dump}
 use Rattle.cj_shelf.specs.Shelves.{is_among, ShelfState}
 use Rattle.cj_locked_cell.specs.Asking.{NotesFault}
-use Rattle.cj_locks.specs.Dumping.{IsDumpOf, IsLastHostOf, MarksDump}
+use Rattle.cj_locks.specs.Dumping.{IsLastHostOf, IsTakenDump, MarksDump}
 use Rattle.cj_locks.specs.declared.restore.RestoreError.{RestoreError}
 use Rattle.cj_locks.specs.declared.restore.RestoreError.TheVariants as refused
 use Rattle.cj_backup.specs.declared.backing.BackupError.{BackupError}
@@ -18,7 +18,7 @@ use Rattle.cj_backup.specs.declared.backing.BackupError.TheVariants as errors
 -- the dump of backend b that its marker names stands on the shelf behind the others, of which none had the name; or why
 -- not. The first reason that holds is given. Where nothing was added the shelf has the dumps that it had.
 abbrev pub BacksUp : {D : Type 0} → Bool → Bool → Layout → ℕ → List ℕ → SeatView → SeatView → ShelfState D → ShelfState D → Result ℕ BackupError → Type 0
-BacksUp tells kept l b name old new shelf now (Ok n) = (is_among name shelf.names ≡ false) × (marks : MarksDump l old.front new.front name b) × (d : Dump) × IsDumpOf tells l marks.m name b d × (n ≡ d.position) × (now.names ≡ shelf.names ++ name ∷ []) × (kept ≡ true → now.dumps ≡ shelf.dumps ++ d ∷ [])
+BacksUp tells kept l b name old new shelf now (Ok n) = (is_among name shelf.names ≡ false) × (marks : MarksDump l old.front new.front name b) × (d : Dump) × IsTakenDump tells l marks.m name b d × (n ≡ d.position) × (now.names ≡ shelf.names ++ name ∷ []) × (kept ≡ true → now.dumps ≡ shelf.dumps ++ d ∷ [])
 BacksUp tells kept l b name old new shelf now (Err errors.NotEnabled) = (is_enabled new.front b ≡ false) × (now ≡ shelf)
 BacksUp tells kept l b name old new shelf now (Err errors.NameTaken) = ((is_among name shelf.names ≡ true) ⊎ (has_marker new.front name ≡ true)) × (now ≡ shelf)
 BacksUp tells kept l b name old new shelf now (Err (errors.LastHost table)) = IsLastHostOf l new.front b table × (now ≡ shelf)

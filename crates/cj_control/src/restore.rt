@@ -1,11 +1,11 @@
 //! How the administrator takes a dump of a backend, and has a lost one come back.
 
-ghost use Rattle.std.specs.Prelude.{◌≡◌, ◌≢◌, ◌<◌, [], length};
+ghost use Rattle.std.specs.Prelude.{◌≢◌, ◌<◌, [], length};
 ghost use Rattle.cj_cluster.specs.History.Legality.{IsLegal};
 ghost use Rattle.cj_board.specs.Seats.{front, pass_view};
 ghost use Rattle.cj_pass.specs.Passes.{HasNotedMore};
-ghost use Rattle.cj_locks.specs.Dumping.{Dumps};
-ghost use Rattle.cj_locks.specs.Restoring.{Enables, IsRightDump, Loads, Replays};
+ghost use Rattle.cj_locks.specs.Dumping.{BeginsDump};
+ghost use Rattle.cj_locks.specs.Restoring.{EnablesSince, IsRightDump, LoadsBackend, ReplaysLog};
 
 use crate::control::Control;
 use cj_backend::Backend;
@@ -32,7 +32,7 @@ impl<J: Naming, B: Backend, S: Store + Drop> Control<J, B, S> {
     ) -> Result<Dump, RestoreError>
         requires below { b < length J.layout.names }
         requires named { name.now ≢ [] }
-        ensures dumps { Dumps B.tells J.layout b name.now (pass_view pass.old.seat) (pass_view pass.new.seat) result }
+        ensures dumps { BeginsDump B.tells J.layout b name.now (pass_view pass.old.seat) (pass_view pass.new.seat) result }
         ensures more { HasNotedMore (pass_view pass.old.seat) (pass_view pass.new.seat) }
         ensures legal { IsLegal (front pass.new.seat) }
     {
@@ -52,7 +52,7 @@ impl<J: Naming, B: Backend, S: Store + Drop> Control<J, B, S> {
     ) -> Result<(), RestoreError>
         requires below { b < length J.layout.names }
         requires dump { IsRightDump B.tells (front pass.old.seat) d }
-        ensures loads { Loads J.layout b d (pass_view pass.old.seat) (pass_view pass.new.seat) result }
+        ensures loads { LoadsBackend J.layout b d (pass_view pass.old.seat) (pass_view pass.new.seat) result }
         ensures more { HasNotedMore (pass_view pass.old.seat) (pass_view pass.new.seat) }
         ensures legal { IsLegal (front pass.new.seat) }
     {
@@ -71,7 +71,7 @@ impl<J: Naming, B: Backend, S: Store + Drop> Control<J, B, S> {
         most: u64,
     ) -> Result<u64, RestoreError>
         requires below { b < length J.layout.names }
-        ensures replays { Replays b most (pass_view pass.old.seat) (pass_view pass.new.seat) result }
+        ensures replays { ReplaysLog b most (pass_view pass.old.seat) (pass_view pass.new.seat) result }
         ensures more { HasNotedMore (pass_view pass.old.seat) (pass_view pass.new.seat) }
         ensures legal { IsLegal (front pass.new.seat) }
     {
@@ -84,7 +84,7 @@ impl<J: Naming, B: Backend, S: Store + Drop> Control<J, B, S> {
     /// After `Fault` and `Starved` the backend is out. After another error it keeps the entries that it has taken.
     pub fn enable<R: Wait>(&self, rt: &R, pass: &mut Pass<J>, b: u8) -> Result<u64, RestoreError>
         requires below { b < length J.layout.names }
-        ensures enables { Enables b (pass_view pass.old.seat) (pass_view pass.new.seat) result }
+        ensures enables { EnablesSince b (pass_view pass.old.seat) (pass_view pass.new.seat) result }
         ensures more { HasNotedMore (pass_view pass.old.seat) (pass_view pass.new.seat) }
         ensures legal { IsLegal (front pass.new.seat) }
     {

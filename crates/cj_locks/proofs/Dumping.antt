@@ -22,7 +22,7 @@ use Rattle.cj_locked_cell.proofs.Asking.{fault_between}
 use Rattle.cj_locked.specs.Auditing.{IsHeldOver}
 use Rattle.cj_locked.specs.Changes.{BringsAt}
 use Rattle.cj_locked.specs.Marking.{BeginsMarkSince, MarksSince}
-use Rattle.cj_locks.specs.Dumping.{CanSpare, Dumps, DumpsSince, MarksDump, ReadsDump, RefusesDump}
+use Rattle.cj_locks.specs.Dumping.{BeginsDump, CanSpare, DumpsSince, MarksDump, ReadsDump, RefusesDump}
 use Rattle.cj_locks.specs.declared.restore.RestoreError.{RestoreError}
 use Rattle.cj_locks.specs.declared.restore.RestoreError.TheVariants as errors
 
@@ -71,7 +71,7 @@ module _ (tells : Bool) (l : Layout) (b : ℕ) (name : List ℕ) (u v : SeatView
   }
 
   -- the backend was asked for what it holds
-  pub dump_read : (n : ℕ) → DumpsSince u.front v.front name b (Ok n) → HasNotedMore u v → (w : SeatView) → HasNotedMore v w → (r : Result Dump RestoreError) → ReadsDump tells l name b n v w r → Dumps tells l b name u w r
+  pub dump_read : (n : ℕ) → DumpsSince u.front v.front name b (Ok n) → HasNotedMore u v → (w : SeatView) → HasNotedMore v w → (r : Result Dump RestoreError) → ReadsDump tells l name b n v w r → BeginsDump tells l b name u w r
   unfolding dump_marks
   dump_read n since before w more r reads = by r reads
     where
@@ -81,7 +81,7 @@ module _ (tells : Bool) (l : Layout) (b : ℕ) (name : List ℕ) (u v : SeatView
       behind : IsPrefix since.m w.front
       behind = prefix_trans since.m (since.m ++ Marker name (Some b) ∷ Disabled b ∷ []) w.front (Marker name (Some b) ∷ Disabled b ∷ [], refl) marks.seen
 
-      by : (q : Result Dump RestoreError) → ReadsDump tells l name b n v w q → Dumps tells l b name u w q
+      by : (q : Result Dump RestoreError) → ReadsDump tells l name b n v w q → BeginsDump tells l b name u w q
       by (Ok d) is = (marks, is since.m behind since.at.0)
       by (Err (errors.Fault k)) is = (is.0, marks, fault_between b u v w w before (noted_self w) is.1)
       by (Err errors.NoMemory) is = tt
@@ -98,13 +98,13 @@ module _ (tells : Bool) (l : Layout) (b : ℕ) (name : List ℕ) (u v : SeatView
       by (Err (errors.DumpAhead k)) is = absurd is
 
 -- a pass had seen less before
-pub dumps_earlier : (tells : Bool) (l : Layout) (b : ℕ) (name : List ℕ) (u v w : SeatView) → HasNotedMore u v → (r : Result Dump RestoreError) → Dumps tells l b name v w r → Dumps tells l b name u w r
+pub dumps_earlier : (tells : Bool) (l : Layout) (b : ℕ) (name : List ℕ) (u v w : SeatView) → HasNotedMore u v → (r : Result Dump RestoreError) → BeginsDump tells l b name v w r → BeginsDump tells l b name u w r
 dumps_earlier tells l b name u v w more r dumps = by r dumps
   where
     marks_earlier : MarksDump l v.front w.front name b → MarksDump l u.front w.front name b
     marks_earlier marks = record { m = marks.m; longer = prefix_trans u.front v.front marks.m more.seen.front marks.longer; fresh = marks.fresh; spare = marks.spare; seen = marks.seen }
 
-    by : (q : Result Dump RestoreError) → Dumps tells l b name v w q → Dumps tells l b name u w q
+    by : (q : Result Dump RestoreError) → BeginsDump tells l b name v w q → BeginsDump tells l b name u w q
     by (Ok d) is = (marks_earlier is.0, is.1)
     by (Err errors.NotEnabled) is = (prefix_trans u.front v.front w.front more.seen.front is.0, is.1)
     by (Err errors.NameTaken) is = is

@@ -26,7 +26,7 @@ use Rattle.cj_locked_cell.specs.Taking.{NotesReport}
 use Rattle.cj_locked_cell.proofs.Asking.{fault_between}
 use Rattle.cj_locked_cell.proofs.Loading.{part_later, within_later}
 use Rattle.cj_locked.specs.Changes.{BringsSince}
-use Rattle.cj_locks.specs.Restoring.{Enables, IsRightDump, Replays, ReplaysTo, TakesNext}
+use Rattle.cj_locks.specs.Restoring.{EnablesSince, IsRightDump, ReplaysLog, ReplaysTo, TakesNext}
 use Rattle.cj_locks.specs.declared.restore.RestoreError.{RestoreError}
 use Rattle.cj_locks.specs.declared.restore.RestoreError.TheVariants as errors
 
@@ -121,10 +121,10 @@ module _ (b : ℕ) where
       by (Err (errors.DumpAhead k)) is = absurd is
 
   -- a pass had seen less before, where the log was no longer
-  pub replays_earlier : (most until : ℕ) (u v w : SeatView) → HasNotedMore u v → length (log u.front) ≤ until → (r : Result ℕ RestoreError) → ReplaysTo b most until v w r → Replays b most u w r
+  pub replays_earlier : (most until : ℕ) (u v w : SeatView) → HasNotedMore u v → length (log u.front) ≤ until → (r : Result ℕ RestoreError) → ReplaysTo b most until v w r → ReplaysLog b most u w r
   replays_earlier most until u v w more within r replays = by r replays
     where
-      by : (q : Result ℕ RestoreError) → ReplaysTo b most until v w q → Replays b most u w q
+      by : (q : Result ℕ RestoreError) → ReplaysTo b most until v w q → ReplaysLog b most u w q
       by (Ok n) is = (⊎_elim {C = (most ≤ n) ⊎ (length (log u.front) ≤ n)} (λ (all : most ≤ n). inl all) (λ (end : until ≤ n). inr (omega (arith, within, end))) is.0, is.1, is.2)
       by (Err (errors.Out seen)) is = is
       by (Err (errors.Fault k)) is = (is.0, fault_between b u v w w more (noted_self w) is.1)
@@ -141,7 +141,7 @@ module _ (b : ℕ) where
       by (Err (errors.DumpAhead k)) is = absurd is
 
   -- it was to be enabled then, and the turn was given back
-  pub not_replayed : (most until : ℕ) (u v w z : SeatView) → HasNotedMore u v → HasNotedMore w z → (error : RestoreError) → ReplaysTo b most until v w (Err error) → Enables b u z (Err error)
+  pub not_replayed : (most until : ℕ) (u v w z : SeatView) → HasNotedMore u v → HasNotedMore w z → (error : RestoreError) → ReplaysTo b most until v w (Err error) → EnablesSince b u z (Err error)
   not_replayed most until u v w z before after (errors.Out seen) is = is
   not_replayed most until u v w z before after (errors.Fault k) is = (is.0, fault_between b u v w z before after is.1)
   not_replayed most until u v w z before after errors.Starved is = tt
@@ -159,10 +159,10 @@ module _ (b : ℕ) where
   -- ---- enabling
 
   -- a pass had seen less before
-  pub enables_earlier : (u w z : SeatView) → HasNotedMore u w → (r : Result ℕ RestoreError) → Enables b w z r → Enables b u z r
+  pub enables_earlier : (u w z : SeatView) → HasNotedMore u w → (r : Result ℕ RestoreError) → EnablesSince b w z r → EnablesSince b u z r
   enables_earlier u w z more r enables = by r enables
     where
-      by : (q : Result ℕ RestoreError) → Enables b w z q → Enables b u z q
+      by : (q : Result ℕ RestoreError) → EnablesSince b w z q → EnablesSince b u z q
       by (Ok n) is = (is.0, prefix_trans u.front w.front is.0 more.seen.front is.1, is.2, is.3, is.4)
       by (Err errors.AlreadyEnabled) is = (is.0, prefix_trans u.front w.front is.0 more.seen.front is.1, is.2, is.3)
       by (Err (errors.Out seen)) is = is

@@ -71,7 +71,7 @@ pub record DumpsSince (F G : List Event) (name : List ℕ) (b : ℕ) (result : R
 
 -- a dump of backend b at the end of history m, as the placement has it: its part of the one database there, if
 -- backends tell what they hold
-pub record IsDumpOf (tells : Bool) (l : Layout) (m : List Event) (name : List ℕ) (b : ℕ) (d : Dump) : Type 0 where
+pub record IsTakenDump (tells : Bool) (l : Layout) (m : List Event) (name : List ℕ) (b : ℕ) (d : Dump) : Type 0 where
   pub position : d.position ≡ length (log m)
   pub source : d.source ≡ b
   pub named : d.name ≡ name
@@ -82,7 +82,7 @@ pub record IsDumpOf (tells : Bool) (l : Layout) (m : List Event) (name : List �
 
 -- what backend b held at position n was read as a dump of it, or why not
 abbrev pub ReadsDump : Bool → Layout → List ℕ → ℕ → ℕ → SeatView → SeatView → Result Dump RestoreError → Type 0
-ReadsDump tells l name b n old new (Ok d) = (m : List Event) → IsPrefix m new.front → n ≡ length (log m) → IsDumpOf tells l m name b d
+ReadsDump tells l name b n old new (Ok d) = (m : List Event) → IsPrefix m new.front → n ≡ length (log m) → IsTakenDump tells l m name b d
 ReadsDump tells l name b n old new (Err (Fault k)) = (k ≡ b) × NotesFault b old new
 ReadsDump tells l name b n old new (Err NoMemory) = Unit {0}
 ReadsDump tells l name b n old new (Err _) = ⊥
@@ -98,13 +98,13 @@ pub record MarksDump (l : Layout) (F G : List Event) (name : List ℕ) (b : ℕ)
 
 -- the dump was taken, or why it was not; the first reason that holds is given. After a fault of the backend, and after
 -- want of memory where the marker came, it is disabled.
-abbrev pub Dumps : Bool → Layout → ℕ → List ℕ → SeatView → SeatView → Result Dump RestoreError → Type 0
-Dumps tells l b name old new (Ok d) = (marks : MarksDump l old.front new.front name b) × IsDumpOf tells l marks.m name b d
-Dumps tells l b name old new (Err NotEnabled) = IsPrefix old.front new.front × (is_enabled new.front b ≡ false)
-Dumps tells l b name old new (Err NameTaken) = (is_enabled new.front b ≡ true) × (has_marker new.front name ≡ true)
-Dumps tells l b name old new (Err (LastHost table)) = (has_marker new.front name ≡ false) × IsLastHostOf l new.front b table
-Dumps tells l b name old new (Err (HistoryFull n)) = (n ≡ length new.front) × (events_left new.front < 2)
-Dumps tells l b name old new (Err LogFault) = (m : List Event) × IsPrefix old.front m × (new.front ≡ m ++ LogFailed 0 0 ∷ [])
-Dumps tells l b name old new (Err (Fault k)) = (k ≡ b) × MarksDump l old.front new.front name b × NotesFault b old new
-Dumps tells l b name old new (Err NoMemory) = Unit {0}
-Dumps tells l b name old new (Err _) = ⊥
+abbrev pub BeginsDump : Bool → Layout → ℕ → List ℕ → SeatView → SeatView → Result Dump RestoreError → Type 0
+BeginsDump tells l b name old new (Ok d) = (marks : MarksDump l old.front new.front name b) × IsTakenDump tells l marks.m name b d
+BeginsDump tells l b name old new (Err NotEnabled) = IsPrefix old.front new.front × (is_enabled new.front b ≡ false)
+BeginsDump tells l b name old new (Err NameTaken) = (is_enabled new.front b ≡ true) × (has_marker new.front name ≡ true)
+BeginsDump tells l b name old new (Err (LastHost table)) = (has_marker new.front name ≡ false) × IsLastHostOf l new.front b table
+BeginsDump tells l b name old new (Err (HistoryFull n)) = (n ≡ length new.front) × (events_left new.front < 2)
+BeginsDump tells l b name old new (Err LogFault) = (m : List Event) × IsPrefix old.front m × (new.front ≡ m ++ LogFailed 0 0 ∷ [])
+BeginsDump tells l b name old new (Err (Fault k)) = (k ≡ b) × MarksDump l old.front new.front name b × NotesFault b old new
+BeginsDump tells l b name old new (Err NoMemory) = Unit {0}
+BeginsDump tells l b name old new (Err _) = ⊥

@@ -30,16 +30,16 @@ pub record IsRightDump (tells : Bool) (F : List Event) (d : Dump) : Type 0 where
   pub right : tells ≡ true → HasCoveredTables d (database_after (log F) d.position)
 
 -- backend b was out, and has its tables of the dump; or why not; the first reason that holds is given
-abbrev pub Loads : Layout → ℕ → Dump → SeatView → SeatView → Result Unit RestoreError → Type 0
-Loads l b d old new (Ok u) = (lacks d l b ≡ None) × (d.position ≤ length (log new.front)) × Contains new.position_notes (b, d.position)
-Loads l b d old new (Err errors.AlreadyEnabled) = WasEnabled old.front new.front b true
-Loads l b d old new (Err errors.NotOut) = (k : ℕ) × Contains new.position_notes (b, k)
-Loads l b d old new (Err (errors.DumpLacks table)) = lacks d l b ≡ Some table
-Loads l b d old new (Err (errors.DumpAhead n)) = (n ≡ d.position) × (m : List Event) × IsPrefix old.front m × IsPrefix m new.front × (length (log m) < n)
-Loads l b d old new (Err (errors.Fault k)) = (k ≡ b) × NotesFault b old new
-Loads l b d old new (Err errors.Starved) = Unit {0}
-Loads l b d old new (Err errors.NoMemory) = Unit {0}
-Loads l b d old new (Err _) = ⊥
+abbrev pub LoadsBackend : Layout → ℕ → Dump → SeatView → SeatView → Result Unit RestoreError → Type 0
+LoadsBackend l b d old new (Ok u) = (lacks d l b ≡ None) × (d.position ≤ length (log new.front)) × Contains new.position_notes (b, d.position)
+LoadsBackend l b d old new (Err errors.AlreadyEnabled) = WasEnabled old.front new.front b true
+LoadsBackend l b d old new (Err errors.NotOut) = (k : ℕ) × Contains new.position_notes (b, k)
+LoadsBackend l b d old new (Err (errors.DumpLacks table)) = lacks d l b ≡ Some table
+LoadsBackend l b d old new (Err (errors.DumpAhead n)) = (n ≡ d.position) × (m : List Event) × IsPrefix old.front m × IsPrefix m new.front × (length (log m) < n)
+LoadsBackend l b d old new (Err (errors.Fault k)) = (k ≡ b) × NotesFault b old new
+LoadsBackend l b d old new (Err errors.Starved) = Unit {0}
+LoadsBackend l b d old new (Err errors.NoMemory) = Unit {0}
+LoadsBackend l b d old new (Err _) = ⊥
 
 -- ---- a replay
 
@@ -62,24 +62,24 @@ ReplaysTo b most until old new (Err errors.NoMemory) = Unit {0}
 ReplaysTo b most until old new (Err _) = ⊥
 
 -- backend b has taken n entries: `most` more, or as many as the log had; or why not
-abbrev pub Replays : ℕ → ℕ → SeatView → SeatView → Result ℕ RestoreError → Type 0
-Replays b most old new (Ok n) = ((most ≤ n) ⊎ (length (log old.front) ≤ n)) × (n ≤ length (log new.front)) × Contains new.position_notes (b, n)
-Replays b most old new (Err errors.AlreadyEnabled) = WasEnabled old.front new.front b true
-Replays b most old new (Err (errors.Out seen)) = seen.b ≡ b
-Replays b most old new (Err (errors.Fault k)) = (k ≡ b) × NotesFault b old new
-Replays b most old new (Err errors.Starved) = Unit {0}
-Replays b most old new (Err errors.NoMemory) = Unit {0}
-Replays b most old new (Err _) = ⊥
+abbrev pub ReplaysLog : ℕ → ℕ → SeatView → SeatView → Result ℕ RestoreError → Type 0
+ReplaysLog b most old new (Ok n) = ((most ≤ n) ⊎ (length (log old.front) ≤ n)) × (n ≤ length (log new.front)) × Contains new.position_notes (b, n)
+ReplaysLog b most old new (Err errors.AlreadyEnabled) = WasEnabled old.front new.front b true
+ReplaysLog b most old new (Err (errors.Out seen)) = seen.b ≡ b
+ReplaysLog b most old new (Err (errors.Fault k)) = (k ≡ b) × NotesFault b old new
+ReplaysLog b most old new (Err errors.Starved) = Unit {0}
+ReplaysLog b most old new (Err errors.NoMemory) = Unit {0}
+ReplaysLog b most old new (Err _) = ⊥
 
 -- ---- enabling
 
 -- backend b was enabled behind n entries, all that the log has then; or why not
-abbrev pub Enables : ℕ → SeatView → SeatView → Result ℕ RestoreError → Type 0
-Enables b old new (Ok n) = (m : List Event) × IsPrefix old.front m × (is_enabled m b ≡ false) × (n ≡ length (log m)) × (new.front ≡ m ++ Enabled b ∷ [])
-Enables b old new (Err errors.AlreadyEnabled) = WasEnabled old.front new.front b true
-Enables b old new (Err (errors.Out seen)) = seen.b ≡ b
-Enables b old new (Err (errors.HistoryFull n)) = (n ≡ length new.front) × (events_left new.front < 1)
-Enables b old new (Err (errors.Fault k)) = (k ≡ b) × NotesFault b old new
-Enables b old new (Err errors.Starved) = Unit {0}
-Enables b old new (Err errors.NoMemory) = Unit {0}
-Enables b old new (Err _) = ⊥
+abbrev pub EnablesSince : ℕ → SeatView → SeatView → Result ℕ RestoreError → Type 0
+EnablesSince b old new (Ok n) = (m : List Event) × IsPrefix old.front m × (is_enabled m b ≡ false) × (n ≡ length (log m)) × (new.front ≡ m ++ Enabled b ∷ [])
+EnablesSince b old new (Err errors.AlreadyEnabled) = WasEnabled old.front new.front b true
+EnablesSince b old new (Err (errors.Out seen)) = seen.b ≡ b
+EnablesSince b old new (Err (errors.HistoryFull n)) = (n ≡ length new.front) × (events_left new.front < 1)
+EnablesSince b old new (Err (errors.Fault k)) = (k ≡ b) × NotesFault b old new
+EnablesSince b old new (Err errors.Starved) = Unit {0}
+EnablesSince b old new (Err errors.NoMemory) = Unit {0}
+EnablesSince b old new (Err _) = ⊥

@@ -9,7 +9,7 @@ ghost use Rattle.cj_place.specs.Layouts.{covered};
 ghost use Rattle.cj_board.specs.Seats.{front, pass_view};
 ghost use Rattle.cj_pass.specs.Passes.{HasNotedMore};
 ghost use Rattle.cj_locked.specs.Marking.{BeginsMarkSince, HoldsMarked};
-ghost use Rattle.cj_locks.specs.Dumping.{CanDump, CanSpare, Dumps, DumpsSince, ReadsDump, RefusesDump};
+ghost use Rattle.cj_locks.specs.Dumping.{BeginsDump, CanDump, CanSpare, DumpsSince, ReadsDump, RefusesDump};
 
 use crate::locks::Locks;
 use crate::restore::RestoreError;
@@ -174,7 +174,7 @@ impl<J: Naming, B: Backend, S: Store + Drop> Locks<J, B, S> {
         requires covers { covers ≡ covered J.layout b }
         requires begun { BeginsMarkSince S.tells S.faults (front pass.old.seat) (front pass.old.seat) name.now (Some b) begun.turn.share.amount begun.turn.log begun.item }
         requires spare { CanSpare J.layout (front pass.old.seat) b }
-        ensures dumps { Dumps B.tells J.layout b name.now (pass_view pass.old.seat) (pass_view pass.new.seat) result }
+        ensures dumps { BeginsDump B.tells J.layout b name.now (pass_view pass.old.seat) (pass_view pass.new.seat) result }
         ensures more { HasNotedMore (pass_view pass.old.seat) (pass_view pass.new.seat) }
         ensures legal { IsLegal (front pass.new.seat) }
     {
@@ -205,7 +205,7 @@ impl<J: Naming, B: Backend, S: Store + Drop> Locks<J, B, S> {
     ) -> Result<Dump, RestoreError>
         requires below { b < length J.layout.names }
         requires named { name.now ≢ [] }
-        ensures dumps { Dumps B.tells J.layout b name.now (pass_view pass.old.seat) (pass_view pass.new.seat) result }
+        ensures dumps { BeginsDump B.tells J.layout b name.now (pass_view pass.old.seat) (pass_view pass.new.seat) result }
         ensures more { HasNotedMore (pass_view pass.old.seat) (pass_view pass.new.seat) }
         ensures legal { IsLegal (front pass.new.seat) }
     {

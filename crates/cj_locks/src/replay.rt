@@ -9,7 +9,7 @@ ghost use Rattle.cj_locked_cell.specs.Asking.{NotesFault};
 ghost use Rattle.cj_locked_cell.specs.Loading.{Stands};
 ghost use Rattle.cj_locked_cell.specs.Taking.{NotesReport};
 ghost use Rattle.cj_locked.specs.Auditing.{HoldsTurn};
-ghost use Rattle.cj_locks.specs.Restoring.{Enables, Replays, ReplaysTo, TakesNext};
+ghost use Rattle.cj_locks.specs.Restoring.{EnablesSince, ReplaysLog, ReplaysTo, TakesNext};
 
 use crate::locks::Locks;
 use crate::restore::RestoreError;
@@ -184,7 +184,7 @@ impl<J: Naming, B: Backend, S: Store + Drop> Locks<J, B, S> {
         most: u64,
     ) -> Result<u64, RestoreError>
         requires below { b < length J.layout.names }
-        ensures replays { Replays b most (pass_view pass.old.seat) (pass_view pass.new.seat) result }
+        ensures replays { ReplaysLog b most (pass_view pass.old.seat) (pass_view pass.new.seat) result }
         ensures more { HasNotedMore (pass_view pass.old.seat) (pass_view pass.new.seat) }
         ensures legal { IsLegal (front pass.new.seat) }
     {
@@ -208,7 +208,7 @@ impl<J: Naming, B: Backend, S: Store + Drop> Locks<J, B, S> {
         requires below { b < length J.layout.names }
         requires holds { HoldsTurn S.tells S.faults (front pass.old.seat) turn.share.amount turn.log }
         requires noted { Contains (pass_view pass.old.seat).position_notes (b, n) }
-        ensures enables { Enables b (pass_view pass.old.seat) (pass_view pass.new.seat) result }
+        ensures enables { EnablesSince b (pass_view pass.old.seat) (pass_view pass.new.seat) result }
         ensures more { HasNotedMore (pass_view pass.old.seat) (pass_view pass.new.seat) }
         ensures legal { IsLegal (front pass.new.seat) }
     {
@@ -229,7 +229,7 @@ impl<J: Naming, B: Backend, S: Store + Drop> Locks<J, B, S> {
     /// After `Fault` and `Starved` the backend is out. After another error it keeps the entries that it has taken.
     pub fn enable<R: Wait>(&self, rt: &R, pass: &mut Pass<J>, b: u8) -> Result<u64, RestoreError>
         requires below { b < length J.layout.names }
-        ensures enables { Enables b (pass_view pass.old.seat) (pass_view pass.new.seat) result }
+        ensures enables { EnablesSince b (pass_view pass.old.seat) (pass_view pass.new.seat) result }
         ensures more { HasNotedMore (pass_view pass.old.seat) (pass_view pass.new.seat) }
         ensures legal { IsLegal (front pass.new.seat) }
     {

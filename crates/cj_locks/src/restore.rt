@@ -9,7 +9,7 @@ ghost use Rattle.cj_place.specs.Layouts.{placement_of};
 ghost use Rattle.cj_board.specs.Seats.{front, pass_view};
 ghost use Rattle.cj_pass.specs.Passes.{HasNotedMore};
 ghost use Rattle.cj_locked_cell.specs.Loading.{IsLoaded};
-ghost use Rattle.cj_locks.specs.Restoring.{IsRightDump, Loads};
+ghost use Rattle.cj_locks.specs.Restoring.{IsRightDump, LoadsBackend};
 
 use crate::locks::Locks;
 use cj_backend::Backend;
@@ -97,7 +97,7 @@ impl<J: Naming, B: Backend, S: Store + Drop> Locks<J, B, S> {
     ) -> Result<(), RestoreError>
         requires below { b < length J.layout.names }
         requires dump { IsRightDump B.tells (front pass.old.seat) d }
-        ensures loads { Loads J.layout b d (pass_view pass.old.seat) (pass_view pass.new.seat) result }
+        ensures loads { LoadsBackend J.layout b d (pass_view pass.old.seat) (pass_view pass.new.seat) result }
         ensures more { HasNotedMore (pass_view pass.old.seat) (pass_view pass.new.seat) }
         ensures legal { IsLegal (front pass.new.seat) }
     {

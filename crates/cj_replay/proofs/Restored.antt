@@ -12,7 +12,7 @@ use Rattle.cj_pass.proofs.Passes.{noted_self}
 use Rattle.cj_place.specs.Layouts.{Layout}
 use Rattle.cj_locks.specs.declared.restore.RestoreError.{RestoreError}
 use Rattle.cj_locks.specs.declared.restore.RestoreError.TheVariants as refused
-use Rattle.cj_locks.specs.Restoring.{Enables, IsRightDump}
+use Rattle.cj_locks.specs.Restoring.{EnablesSince, IsRightDump}
 use Rattle.cj_locked_cell.proofs.Asking.{fault_between}
 use Rattle.cj_replay.specs.declared.reenabling.ReplayError.{ReplayError}
 use Rattle.cj_replay.specs.declared.reenabling.ReplayError.TheVariants as errors
@@ -31,7 +31,7 @@ right_later tells F G d longer is = record {
 }
 
 -- why it was not enabled
-pub not_enabled : (l : Layout) (b : ℕ) (d : Option Dump) (old new : SeatView) (error : RestoreError) (refusal : ReplayError) → Enables b old new (Err error) → IsReplayErrorOf error refusal → RefusesReenabling l b d old new refusal
+pub not_enabled : (l : Layout) (b : ℕ) (d : Option Dump) (old new : SeatView) (error : RestoreError) (refusal : ReplayError) → EnablesSince b old new (Err error) → IsReplayErrorOf error refusal → RefusesReenabling l b d old new refusal
 not_enabled l b d old new refused.NotEnabled refusal why is = absurd is
 not_enabled l b d old new refused.AlreadyEnabled refusal why is = subst (RefusesReenabling l b d old new) (sym is) why
 not_enabled l b d old new refused.NameTaken refusal why is = absurd is
