@@ -1,10 +1,8 @@
 pub mod Auditing
 pub mod Common
-pub mod Cutting
 pub mod Filled
 pub mod InTurns
 pub mod MoveLines
 pub mod Moving
-pub mod Numbers
 pub mod Playing
 pub mod Requests

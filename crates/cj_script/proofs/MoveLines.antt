@@ -7,8 +7,9 @@ use Rattle.cj_cluster.specs.declared.moves.Move.TheVariants as move
 use Rattle.cj_script.specs.declared.verb.Verb.{Verb}
 use Rattle.cj_script.specs.declared.verb.Verb.TheVariants.{Open, Close, Write, Abort, Apply, End, Read, Arm, Disable, Replay, Enable, Mark, Dump, Load}
 use Rattle.cj_script.specs.declared.verb.TheConstants.{VERBS}
-use Rattle.cj_script.specs.Reading.{FindsValue, find_verb, verb_of, word_of, CutsWord, Arguments}
-use Rattle.cj_script.proofs.Cutting.{no_space, cut_one}
+use Rattle.cj_script.specs.Reading.{find_verb, verb_of, word_of, Arguments}
+use Rattle.cj_words.specs.Words.{CutsWord, FindsValue}
+use Rattle.cj_words.proofs.Cutting.{no_space, cut_one}
 
 -- ---- words of verbs
 

@@ -7,8 +7,9 @@ use Rattle.cj_model.specs.declared.select.Select.{Select}
 use Rattle.cj_cluster.specs.declared.moves.Move.TheVariants as move
 use Rattle.cj_model.specs.Sql.PlainRequests.{is_plain}
 use Rattle.cj_cluster.specs.Script.Lines.{IsPlainSql, IsWrite}
-use Rattle.cj_script.specs.Reading.{IsNumbered, IsNamed, NamesBackendAndDump, OfDump, SaysWrite, Queries, IsQuery, FindsValue}
-use Rattle.cj_script.proofs.Cutting.{numbered_one, named_one}
+use Rattle.cj_script.specs.Reading.{NamesBackendAndDump, OfDump, SaysWrite, Queries, IsQuery}
+use Rattle.cj_words.specs.Words.{FindsValue, IsNamed, IsNumbered}
+use Rattle.cj_words.proofs.Cutting.{numbered_one, named_one}
 use Rattle.cj_model.specs.Sql.Grammar.{TextReadsAs, ReadsAsNothing}
 
 -- the one request that the text reads as is plain

@@ -3,13 +3,14 @@
 ghost use Rattle.std.specs.Prelude.{◌≡◌, ◌≤◌, ◌<◌, ◌↔◌, length, IfOk, IsTrue, is_some};
 ghost use Rattle.cj_model.specs.Sql.PlainRequests.{act_of};
 ghost use Rattle.cj_cluster.specs.Script.Lines.{IsPlainSql, IsUser, IsWrite};
-ghost use Rattle.cj_script.specs.Reading.{Arguments, NamesBackendAndDump, OfDump, ReadsAbort, ReadsClose, ReadsMark, FindsValue, IsQuery, ReadsOpen, Queries, SaysWrite};
+ghost use Rattle.cj_script.specs.Reading.{Arguments, IsQuery, NamesBackendAndDump, OfDump, Queries, ReadsAbort, ReadsClose, ReadsMark, ReadsOpen, SaysWrite};
+ghost use Rattle.cj_words.specs.Words.{FindsValue};
 
 use crate::verb::Verb;
-use crate::words::{backend, is_word, named, number, numbered};
 use cj_cluster::Move;
 use cj_model::{BACKEND_LIMIT, Name, Names, NoMemory, Request, Select, Text, USER_LIMIT};
 use cj_sql::{SqlError, is_plain, read};
+use cj_words::{backend, is_word, named, number, numbered};
 use std::alloc::Global;
 
 fn is_short(word: &[u8]) -> bool

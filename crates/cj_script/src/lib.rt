@@ -13,7 +13,6 @@ mod parse;
 mod play;
 mod print;
 mod verb;
-mod words;
 
 pub use parse::parse_move;
 pub use play::{ScriptEnd, script};

@@ -2,13 +2,14 @@
 
 ghost use Rattle.std.specs.Prelude.{◌≤◌, length, IfOk};
 ghost use Rattle.cj_cluster.specs.Script.Lines.{MoveLine};
-ghost use Rattle.cj_script.specs.Reading.{FindsValue, IsOneWordMove};
+ghost use Rattle.cj_script.specs.Reading.{IsOneWordMove};
+ghost use Rattle.cj_words.specs.Words.{FindsValue};
 
 use crate::arguments::arguments;
 use crate::verb::verb_of;
-use crate::words::cut;
 use cj_cluster::Move;
 use cj_model::{BACKEND_LIMIT, Names, NoMemory};
+use cj_words::cut;
 use std::alloc::Global;
 
 /// Returns the move of a line that is one word.

@@ -1,5 +1,6 @@
 use Rattle.std.proofs.Common.{sym, subst}
-use Rattle.cj_script.specs.Reading.{FindsValue, Arguments}
+use Rattle.cj_script.specs.Reading.{Arguments}
+use Rattle.cj_words.specs.Words.{FindsValue}
 use Rattle.cj_script.proofs.arguments.arguments.Goals as goal
 
 pub returns-in-Close : goal.returns-in-Close

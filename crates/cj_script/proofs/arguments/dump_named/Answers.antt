@@ -1,5 +1,6 @@
 use Rattle.std.proofs.Common.{◌≡◌, List, ℕ, Bool, true, false, cond, None, Some, refl, sym, ◌∙◌, subst}
-use Rattle.cj_script.proofs.Common.{FindsValue, is_name, NamesBackendAndDump}
+use Rattle.cj_script.proofs.Common.{is_name, NamesBackendAndDump}
+use Rattle.cj_words.specs.Words.{FindsValue}
 use Rattle.cj_script.proofs.Requests.{no_dump, no_dump_name, one_dump}
 use Rattle.cj_script.proofs.arguments.dump_named.Goals as goal
 

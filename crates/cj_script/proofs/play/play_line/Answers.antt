@@ -1,5 +1,6 @@
 use Rattle.std.proofs.Common.{◌≡◌, ℕ, List, Result, inl, sym, ap, subst, ◌∙◌}
-use Rattle.cj_script.proofs.Common.{DoesLine, FindsValue, moved_lines, MoveLine, PlaysOrEnds, ScriptEnd, Setup}
+use Rattle.cj_script.proofs.Common.{DoesLine, moved_lines, MoveLine, PlaysOrEnds, ScriptEnd, Setup}
+use Rattle.cj_words.specs.Words.{FindsValue}
 use Rattle.cj_script.proofs.Auditing.{done_or_ends}
 use Rattle.cj_script.proofs.play.play_line.Goals as goal
 

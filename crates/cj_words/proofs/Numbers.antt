@@ -1,14 +1,17 @@
 -- Numbers as words.
 use Rattle.std.proofs.Common.{◌≡◌, ◌∙◌, refl, sym, ap, subst, ℕ, zero, suc, ◌<◌, ◌^◌, true, false, not, ◌||◌, ◌==◌, List, [], ◌∷◌, length, get_or, Result, Ok, inl, inr, arith, rules}
-use Rattle.cj_print.proofs.Common.{decimal, is_ascii_digit, nat_tests}
+use Rattle.std.specs.Char.{is_ascii_digit}
+use Rattle.std.specs.Fmt.{decimal}
+use Rattle.std.specs.List.{list_all}
+use Rattle.std.proofs.lemmas.Bool.Decides.{nat_tests}
 use Rattle.std.specs.Str.{IsUtf8}
 use Rattle.std.proofs.lemmas.Fmt.{digits_decimal, decimal_nonempty, first_decimal, decimal-digits_value, parse-decimal, decimal_injective, decimal_digit, IsAscii-decimal}
 use Rattle.std.proofs.lemmas.Str.{IsUtf8-from_ascii}
 use Rattle.std.proofs.lemmas.Str.Parse.{IsNumeralModel, numerals_by_value, parse_digits}
-use Rattle.std.specs.Str.Parse.{digits_value}
+use Rattle.std.specs.Str.Parse.{ParsesUnsigned, digits_value}
 use Rattle.std.proofs.lemmas.Bool.{and_parts, and_from, or_cases, not-true, eqb-false, ne_eqb, false≢true}
-use Rattle.cj_script.proofs.Common.{HasNoSpace, IsNumber, list_all, ParsesUnsigned}
-use Rattle.cj_script.specs.Reading.{begins_number, is_numeral}
+use Rattle.cj_cluster.specs.Script.Lines.{HasNoSpace, IsNumber}
+use Rattle.cj_words.specs.Words.{begins_number, is_numeral}
 
 -- the digits of the words are std's
 numerals : IsNumeralModel (λ z. list_all is_ascii_digit z ≡ true) (digits_value 10)

@@ -6,8 +6,8 @@ ghost use Rattle.std.specs.List.{list_all};
 ghost use Rattle.std.specs.Str.{bytes_eq};
 ghost use Rattle.std.specs.Option.{option_copied};
 ghost use Rattle.cj_cluster.specs.Script.Lines.{IsBackend, IsNumber, HasNoSpace};
-ghost use Rattle.cj_script.specs.Reading.{CutsWord, FindsValue, IsFirstSpace, IsNamed, IsNumbered};
-ghost use Rattle.cj_script.specs.Reading as spec;
+ghost use Rattle.cj_words.specs.Words.{CutsWord, FindsValue, IsFirstSpace, IsNamed, IsNumbered};
+ghost use Rattle.cj_words.specs.Words as spec;
 
 use cj_model::{BACKEND_LIMIT, Name, Names};
 

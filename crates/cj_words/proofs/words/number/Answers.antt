@@ -1,7 +1,7 @@
 use Rattle.std.proofs.Common.{◌∙◌, sym, subst}
 use Rattle.std.specs.Str.Parse.{ParsesUnsigned}
-use Rattle.cj_script.proofs.Numbers.{no_numeral, number_utf8, number_parses, number_one, numeral_number}
-use Rattle.cj_script.proofs.words.number.Goals as goal
+use Rattle.cj_words.proofs.Numbers.{no_numeral, number_utf8, number_parses, number_one, numeral_number}
+use Rattle.cj_words.proofs.words.number.Goals as goal
 
 pub returns-then-not-is_numeral : goal.returns-then-not-is_numeral
 returns-then-not-is_numeral c = no_numeral c.args.word.now (sym c.is_numeral.ensures ∙ c.if-not-is_numeral.true)

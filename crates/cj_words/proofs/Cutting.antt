@@ -1,9 +1,11 @@
 -- Where words end.
 use Rattle.std.proofs.Common.{◌≡◌, ◌∙◌, refl, sym, ap, subst, ℕ, not, ◌==◌, List, [], ◌∷◌, ◌++◌, Some}
 use Rattle.std.specs.List.{list_all, position}
-use Rattle.cj_script.proofs.Common.{and_parts, bytes_eq, CutsWord, false≢true, IsNamed, IsNumbered}
+use Rattle.std.specs.Str.{bytes_eq}
+use Rattle.std.proofs.lemmas.Bool.{and_parts, false≢true}
+use Rattle.cj_words.specs.Words.{CutsWord, IsNamed, IsNumbered}
 use Rattle.cj_cluster.specs.Script.Lines.{IsNumber, IsBackend, HasNoSpace}
-use Rattle.cj_script.proofs.Numbers.{number_word, number_one}
+use Rattle.cj_words.proofs.Numbers.{number_word, number_one}
 
 -- what a word is after its first byte
 rest_word : (b : ℕ) (z : List ℕ) → HasNoSpace (b ∷ z) → HasNoSpace z

@@ -1,0 +1,1 @@
+-- The line of a command as its parts.
