@@ -107,18 +107,18 @@ BacksUpAndReenables s b name old new shelf now answer = ⊥
 -- ---- a command
 
 -- what a command is answered, but for what becomes of the shelf
-abbrev pub AnswersAt : {D : Type 0} → Served D → Command → SeatView → SeatView → ShelfState D → ShelfState D → Answer → Type 0
-AnswersAt s commands.ShowBackends old new shelf now answer = ShowsText (ShowsBackends s.layout.names old new) answer
-AnswersAt s (commands.ShowLog first last) old new shelf now answer = ShowsText (λ text. text ≡ listing s.layout.names (items_between first last new.front)) answer
-AnswersAt s commands.ShowCache old new shelf now answer = (hits : ℕ) × (misses : ℕ) × (answer ≡ CacheCounts hits misses)
-AnswersAt s commands.Audit old new shelf now answer = ShowsAudit s.tells s.layout old new answer
-AnswersAt s (commands.Checkpoint name) old new shelf now answer = (result : Result ℕ AdminError) × ChecksSince old.front new.front name result × (answer ≡ answer_of_number result)
-AnswersAt s (commands.Disable b) old new shelf now answer = (result : Result Unit AdminError) × DisablesSince old.front new.front b result × (answer ≡ answer_of_done result)
-AnswersAt s (commands.Enable b None) old new shelf now answer = (result : Result ℕ ReplayError) × Reenables s.layout b None old new result × (answer ≡ answer_of_reenabling result)
-AnswersAt s (commands.Enable b (Some name)) old new shelf now answer = ReenablesFrom s b name old new shelf now answer
-AnswersAt s (commands.Backup b name) old new shelf now answer = BacksUpAndReenables s b name old new shelf now answer
-AnswersAt s (commands.Abort tx) old new shelf now answer = (result : Result ℕ AdminError) × EndsOrphanSince s.tells (placement_of s.layout) old.front new.front tx result × (answer ≡ answer_of_number result)
-AnswersAt s commands.Quit old new shelf now answer = (answer ≡ Done) × (new ≡ old)
+abbrev pub AnswersAsked : {D : Type 0} → Served D → Command → SeatView → SeatView → ShelfState D → ShelfState D → Answer → Type 0
+AnswersAsked s commands.ShowBackends old new shelf now answer = ShowsText (ShowsBackends s.layout.names old new) answer
+AnswersAsked s (commands.ShowLog first last) old new shelf now answer = ShowsText (λ text. text ≡ listing s.layout.names (items_between first last new.front)) answer
+AnswersAsked s commands.ShowCache old new shelf now answer = (hits : ℕ) × (misses : ℕ) × (answer ≡ CacheCounts hits misses)
+AnswersAsked s commands.Audit old new shelf now answer = ShowsAudit s.tells s.layout old new answer
+AnswersAsked s (commands.Checkpoint name) old new shelf now answer = (result : Result ℕ AdminError) × ChecksSince old.front new.front name result × (answer ≡ answer_of_number result)
+AnswersAsked s (commands.Disable b) old new shelf now answer = (result : Result Unit AdminError) × DisablesSince old.front new.front b result × (answer ≡ answer_of_done result)
+AnswersAsked s (commands.Enable b None) old new shelf now answer = (result : Result ℕ ReplayError) × Reenables s.layout b None old new result × (answer ≡ answer_of_reenabling result)
+AnswersAsked s (commands.Enable b (Some name)) old new shelf now answer = ReenablesFrom s b name old new shelf now answer
+AnswersAsked s (commands.Backup b name) old new shelf now answer = BacksUpAndReenables s b name old new shelf now answer
+AnswersAsked s (commands.Abort tx) old new shelf now answer = (result : Result ℕ AdminError) × EndsOrphanSince s.tells (placement_of s.layout) old.front new.front tx result × (answer ≡ answer_of_number result)
+AnswersAsked s commands.Quit old new shelf now answer = (answer ≡ Done) × (new ≡ old)
 
 -- what becomes of the shelf: a backup adds to it, a look for a dump leaves its dumps, and nothing else touches it
 abbrev pub LeavesShelf : {D : Type 0} → Served D → Command → ShelfState D → ShelfState D → Type 0
@@ -128,7 +128,7 @@ LeavesShelf s _ shelf now = now ≡ shelf
 
 -- the command gets this answer
 pub record AnswersCommand {D : Type 0} (s : Served D) (c : Command) (a z : Standing D) (answer : Answer) : Type 0 where
-  pub answers : AnswersAt s c a.view z.view a.shelf z.shelf answer
+  pub answers : AnswersAsked s c a.view z.view a.shelf z.shelf answer
   pub shelf : LeavesShelf s c a.shelf z.shelf
 
 -- ---- a line
