@@ -47,10 +47,7 @@ pub enum Command {
 pub enum Asked {
     Command(Command),
     /// Serve connections at the address, and a console on the streams.
-    Serve {
-        conf: ConfPath,
-        address: ConfPath,
-    },
+    Serve { conf: ConfPath, address: ConfPath },
     Help(Topic),
     Version,
 }

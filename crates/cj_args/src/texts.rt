@@ -133,9 +133,9 @@ fn gen_help(alloc: Global) -> Result<String, NoMemory> {
 }
 
 fn serve_help(alloc: Global) -> Result<String, NoMemory> {
-    let address = Arg::new(alloc, "ADDR")
-        .required(true)
-        .help("Where to listen: a host's name or number, a colon and a port's number");
+    let address = Arg::new(alloc, "ADDR").required(true).help(
+        "Where to listen: a host's name or number, a colon and a port's number",
+    );
     let mut command = Command::new(alloc, "cjc serve")
         .about(SERVE)
         .after_help(SERVE_NOTES)

@@ -84,7 +84,18 @@ fn serve_configured<
             return Err(Unserved::Log(StartError::NoMemory, log, dumps));
         };
         return serve_over(
-            rt, alloc, parts, log, dumps, backends, input, output, clock, port, spawner, seed,
+            rt,
+            alloc,
+            parts,
+            log,
+            dumps,
+            backends,
+            input,
+            output,
+            clock,
+            port,
+            spawner,
+            seed,
             connections,
         );
     }
@@ -95,7 +106,18 @@ fn serve_configured<
         return Err(Unserved::Log(StartError::NoMemory, log, dumps));
     };
     serve_over(
-        rt, alloc, parts, log, dumps, backends, input, output, clock, port, spawner, seed,
+        rt,
+        alloc,
+        parts,
+        log,
+        dumps,
+        backends,
+        input,
+        output,
+        clock,
+        port,
+        spawner,
+        seed,
         connections,
     )
 }

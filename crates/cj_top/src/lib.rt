@@ -23,9 +23,7 @@ mod refused;
 mod scripted;
 mod words;
 
-pub use configured::{
-    Unconfigured, any_backends, are_in_memory, conf_of, parts_of, tell_refusal,
-};
+pub use configured::{Unconfigured, any_backends, are_in_memory, conf_of, parts_of, tell_refusal};
 pub use files::Paths;
 pub use laws::completeness_follows;
 pub use piped::{PipeError, pipe};

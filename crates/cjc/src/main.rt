@@ -9,8 +9,8 @@
 use cj_edge::{
     FileStore, Patient, StdSink, StdSource, SystemClock, WordsError, fill_standard_streams, words,
 };
-use cj_explain::{Noted, Traces, explain, tell};
 use cj_edge_net::TcpPort;
+use cj_explain::{Noted, Traces, explain, tell};
 use cj_outside::Sink;
 use cj_port::Spawner;
 use cj_program::{paths, run};
@@ -110,11 +110,13 @@ fn main(rt: HostRuntime) -> ExitCode {
         Ok(words) => words,
         Err(error) => return refuse_words(error, &mut errors),
     };
-    let Some(Stores {
-        mut conf,
-        log,
-        dumps,
-    }) = stores(rt.alloc(), rt, &words)
+    let Some(
+        Stores {
+            mut conf,
+            log,
+            dumps,
+        },
+    ) = stores(rt.alloc(), rt, &words)
     else {
         return ExitCode::from(1);
     };
