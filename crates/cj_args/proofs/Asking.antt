@@ -1,13 +1,14 @@
 -- What the words are read as is what they ask for.
-use Rattle.std.proofs.Common.{◌≡◌, refl, sym, ap, subst, ◌∙◌, ℕ, true, ◌&&◌, List, [], ◌∷◌, codes, Bor, inl, inr}
-use Rattle.std.specs.Prelude.{IfSome, IsNone, IsSome, option_copied, option_map}
+use Rattle.std.proofs.Common.{◌≡◌, refl, sym, ap, subst, ◌∙◌, ℕ, Bool, true, false, ◌&&◌, List, [], ◌∷◌, codes, Bor, inl, inr}
+use Rattle.std.specs.Prelude.{IfSome, IsNone, IsSome, option_copied, option_map, if◌then◌else◌}
 use Rattle.std.specs.declared.option.Option.{Option}
 use Rattle.std.specs.declared.option.Option.TheVariants.{None, Some}
 use Rattle.std.specs.Str.{bytes_eq}
+use Rattle.std.proofs.lemmas.Bool.{and_parts}
 use Rattle.std.proofs.lemmas.Option.{some_pair_parts}
 use Rattle.std.proofs.lemmas.Slice.Eq.{bytes_eq-Decides}
 use Rattle.cj_args.specs.Words.{names_file, word_of, file_of, Says, SaysWork, AsksCommand, IsServing, NamesConf}
-use Rattle.cj_args.specs.Proving.{next_word, only_conf, over_file, as_command, workload, command_of, is_only, or_help, asked_of_verb, asked_of_program, verb_of, by_verb, asked_of, of_verb, conf_of, conf_in, serving_parts, as_serving, as_work, work_of}
+use Rattle.cj_args.specs.Proving.{next_word, only_conf, over_file, as_command, workload, command_of, is_only, or_help, asked_of_verb, asked_of_program, verb_of, by_verb, asked_of, of_verb, conf_of, conf_in, serving_parts, as_serving, as_work, work_of, address_in}
 use Rattle.cj_args.specs.declared.asked.Verb.{Verb}
 use Rattle.cj_args.specs.declared.asked.Verb.TheVariants as verb
 use Rattle.cj_args.specs.declared.asked.Topic.TheVariants as topic
@@ -67,12 +68,12 @@ command_is verb.Serve rest = over_is verb.Serve rest (only_conf rest) (conf_is r
 
 -- both words are files
 both : (conf address : List ℕ) → (names_file conf && names_file address) ≡ true → (names_file conf ≡ true) × (names_file address ≡ true)
-both conf address e = (and_true-left (names_file conf) (names_file address) e, and_true-right (names_file conf) (names_file address) e)
+both conf address e = and_parts (names_file conf) (names_file address) e
 
 parts_are : (rest : List (List ℕ)) → IfSome (serving_parts rest) (λ parts. IsServing (word_of verb.Serve ∷ rest) parts.0 parts.1)
 parts_are [] = tt
 parts_are (conf ∷ []) = tt
-parts_are (conf ∷ address ∷ []) = pick (λ (parts : List ℕ × List ℕ). IsServing (word_of verb.Serve ∷ conf ∷ address ∷ []) parts.0 parts.1) (names_file conf && names_file address) (conf, address) None (λ e. (refl, both conf address e)) tt
+parts_are (conf ∷ address ∷ []) = pick (λ (parts : List ℕ × List ℕ). IsServing (word_of verb.Serve ∷ conf ∷ address ∷ []) parts.0 parts.1) (names_file conf && names_file address) (conf, address) None (λ e. let parts = both conf address e in (refl, parts.0, parts.1)) tt
 parts_are (conf ∷ address ∷ next ∷ words) = tt
 
 serving_is : (rest : List (List ℕ)) (o : Option (List ℕ × List ℕ)) → IfSome o (λ parts. IsServing (word_of verb.Serve ∷ rest) parts.0 parts.1) → IfSome (as_serving o) (AsksCommand (word_of verb.Serve ∷ rest))
@@ -137,7 +138,7 @@ asked_read words (asked.Command (command.Pipe conf)) h = at_words words _ _ h.0 
 asked_read words (asked.Command (command.Script conf)) h = at_words words _ _ h.0 (rw h.1 refl)
 asked_read words (asked.Command (command.Log conf)) h = at_words words _ _ h.0 (rw h.1 refl)
 asked_read words (asked.Command (command.Gen conf seed count)) h = at_words words _ _ h.1 (rw (workload_read h.0 conf seed count h.2) refl)
-asked_read words (asked.Serve conf address) h = at_words words _ _ h.0 (rw h.1.0 (rw h.1.1 refl))
+asked_read words (asked.Serve conf address) h = at_words words _ _ h.0 (rw h.1 (rw h.2 refl))
 asked_read words (asked.Help topic.Program) h = at_words words _ _ h refl
 asked_read words (asked.Help (topic.Command verb.Pipe)) h = at_words words _ _ h refl
 asked_read words (asked.Help (topic.Command verb.Script)) h = at_words words _ _ h refl
@@ -176,7 +177,7 @@ conf_read words conf (inl (command.Pipe file, h, e)) = ap conf_in h.0 ∙ rw h.1
 conf_read words conf (inl (command.Script file, h, e)) = ap conf_in h.0 ∙ rw h.1 (ap Some (sym e))
 conf_read words conf (inl (command.Log file, h, e)) = ap conf_in h.0 ∙ rw h.1 (ap Some (sym e))
 conf_read words conf (inl (command.Gen file seed count, h, e)) = ap conf_in h.1 ∙ rw (workload_read h.0 file seed count h.2) (ap Some (sym e))
-conf_read words conf (inr (address, h)) = ap conf_in h.0 ∙ rw h.1.0 (rw h.1.1 refl)
+conf_read words conf (inr (address, h)) = ap conf_in h.0 ∙ rw h.1 (rw h.2 refl)
 
 copied_named : (words : List (List ℕ)) (r : Option (Bor (List ℕ))) (o : Option (List ℕ)) → option_copied r ≡ o → IfSome o (NamesConf words) → IfSome r (λ conf. NamesConf words conf.now)
 copied_named words None o e h = tt
@@ -192,3 +193,31 @@ none_copied (Some other) conf e none = absurd (cc)
 
 pub no_conf : (words : List (List ℕ)) (r : Option (Bor (List ℕ))) → option_copied r ≡ conf_in words → IsNone r → (conf : List ℕ) → NamesConf words conf → ⊥
 no_conf words r e none conf names = none_copied r conf (e ∙ conf_read words conf names) none
+
+-- ---- the address
+
+serves_behind : (word : List ℕ) (rest : List (List ℕ)) (is : Bool) (o : Option (List ℕ × List ℕ)) → (is ≡ true → word ≡ codes "serve") → IfSome o (λ parts. IsServing (word_of verb.Serve ∷ rest) parts.0 parts.1)
+    → IfSome (if is then option_map (λ parts. parts.1) o else None) (λ address. (conf : List ℕ) × IsServing (word ∷ rest) conf address)
+serves_behind word rest false o same h = tt
+serves_behind word rest true None same h = tt
+serves_behind word rest true (Some parts) same h =
+    (parts.0, subst (λ (w : List ℕ). IsServing (w ∷ rest) parts.0 parts.1) (sym (same refl)) h)
+
+address_is : (words : List (List ℕ)) → IfSome (address_in words) (λ address. (conf : List ℕ) × IsServing words conf address)
+address_is [] = tt
+address_is (word ∷ rest) =
+    serves_behind word rest (bytes_eq word (codes "serve")) (serving_parts rest) (same_word word (codes "serve")) (parts_are rest)
+
+address_read : (words : List (List ℕ)) (conf address : List ℕ) → IsServing words conf address → address_in words ≡ Some address
+address_read words conf address h = ap address_in h.0 ∙ rw h.1 (rw h.2 refl)
+
+copied_address : (words : List (List ℕ)) (r : Option (Bor (List ℕ))) (o : Option (List ℕ)) → option_copied r ≡ o → IfSome o (λ address. (conf : List ℕ) × IsServing words conf address) → IfSome r (λ address. (conf : List ℕ) × IsServing words conf address.now)
+copied_address words None o e h = tt
+copied_address words (Some address) None e h = absurd (cc)
+copied_address words (Some address) (Some other) e h = let same : other ≡ address.now = cc in subst (λ (a : List ℕ). (conf : List ℕ) × IsServing words conf a) same h
+
+pub address_is_named : (words : List (List ℕ)) (r : Option (Bor (List ℕ))) → option_copied r ≡ address_in words → IfSome r (λ address. (conf : List ℕ) × IsServing words conf address.now)
+address_is_named words r e = copied_address words r (address_in words) e (address_is words)
+
+pub no_address : (words : List (List ℕ)) (r : Option (Bor (List ℕ))) → option_copied r ≡ address_in words → IsNone r → (conf address : List ℕ) → IsServing words conf address → ⊥
+no_address words r e none conf address serves = none_copied r address (e ∙ address_read words conf address serves) none

@@ -192,3 +192,8 @@ of_verb rest (Some v) = conf_of v rest
 abbrev pub conf_in : List (List ℕ) → Option (List ℕ)
 conf_in [] = None
 conf_in (word ∷ rest) = of_verb rest (verb_of word)
+
+-- the address at which the words ask to serve
+abbrev pub address_in : List (List ℕ) → Option (List ℕ)
+address_in [] = None
+address_in (word ∷ rest) = if bytes_eq word (codes "serve") then option_map (λ parts. parts.1) (serving_parts rest) else None

@@ -208,11 +208,8 @@ fn conf_of(verb: Verb, words: &[String]) -> Option<&str>
     }
 }
 
-/// Returns the configuration's file of what the words ask for, or `None` exactly if they ask for no work. This takes no
-/// memory.
-pub fn conf_word(words: &[String]) -> Option<&str>
-    ensures some { IfSome result (λ conf. NamesConf (map string_bytes words.now) conf.now) }
-    ensures none { IsNone result → (conf : List ℕ) → NamesConf (map string_bytes words.now) conf → ⊥ }
+fn conf_in(words: &[String]) -> Option<&str>
+    ensures { option_copied result ≡ reading.conf_in (map string_bytes words.now) }
 {
     match next_word(words) {
         None => None,
@@ -223,16 +220,36 @@ pub fn conf_word(words: &[String]) -> Option<&str>
     }
 }
 
+fn address_in(words: &[String]) -> Option<&str>
+    ensures { option_copied result ≡ reading.address_in (map string_bytes words.now) }
+{
+    match next_word(words) {
+        None => None,
+        Some((word, rest)) => {
+            if word != "serve" {
+                return None;
+            }
+            match serving_parts(rest) {
+                Some((_, address)) => Some(address),
+                None => None,
+            }
+        }
+    }
+}
+
+/// Returns the configuration's file of what the words ask for, or `None` exactly if they ask for no work. This takes no
+/// memory.
+pub fn conf_word(words: &[String]) -> Option<&str>
+    ensures some { IfSome result (λ conf. NamesConf (map string_bytes words.now) conf.now) }
+    ensures none { IsNone result → (conf : List ℕ) → NamesConf (map string_bytes words.now) conf → ⊥ }
+{
+    conf_in(words)
+}
+
 /// Returns the address at which the words ask to serve, or `None` exactly if they don't. This takes no memory.
 pub fn address_word(words: &[String]) -> Option<&str>
     ensures some { IfSome result (λ address. (conf : List ℕ) × IsServing (map string_bytes words.now) conf address.now) }
     ensures none { IsNone result → (conf address : List ℕ) → IsServing (map string_bytes words.now) conf address → ⊥ }
 {
-    match next_word(words) {
-        Some((word, rest)) if word == "serve" => match serving_parts(rest) {
-            Some((_, address)) => Some(address),
-            None => None,
-        },
-        _ => None,
-    }
+    address_in(words)
 }
