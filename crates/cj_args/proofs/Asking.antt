@@ -105,6 +105,22 @@ asked_is (word ∷ rest) = by_verb_is word rest (verb_of word) (verb_is word)
 
 -- ---- where work is read, the words ask for it
 
+as_work_some : (o : Option Command) → IsSome o → IsSome (as_work o)
+as_work_some None some = some
+as_work_some (Some command) some = tt
+
+no_serving : (o : Option (List ℕ)) → IsSome (over_file verb.Serve o) → ⊥
+no_serving None some = absurd (cc)
+no_serving (Some conf) some = absurd (cc)
+
+-- a verb with a command has work
+pub work_some : (v : Verb) (rest : List (List ℕ)) → IsSome (command_of v rest) → IsSome (work_of v rest)
+work_some verb.Pipe rest some = as_work_some (command_of verb.Pipe rest) some
+work_some verb.Script rest some = as_work_some (command_of verb.Script rest) some
+work_some verb.Log rest some = as_work_some (command_of verb.Log rest) some
+work_some verb.Gen rest some = as_work_some (command_of verb.Gen rest) some
+work_some verb.Serve rest some = absurd (no_serving (only_conf rest) some)
+
 command_says : (words : List (List ℕ)) (o : Option Command) → IfSome o (Says words) → IsSome (as_work o) → SaysWork words
 command_says words None h some = absurd (cc)
 command_says words (Some command) h some = inl (command, h)
