@@ -9,7 +9,9 @@ use cj_outside::Store;
 use std::marker::PhantomData;
 
 /// A backend that passes every call on to another one. Contracts see its contents only where they see those of that
-/// backend and the bytes of a store of type `D`. It has no such store itself.
+/// backend and the bytes of a store of type `D`.
+///
+/// It has no such store itself. A call with the bound `Send` asks it of `D` all the same.
 #[derive(Drop)]
 pub struct Beside<B: Backend, D: Store> {
     inner: B,

@@ -5,8 +5,8 @@
 //! backend and the store both do (`told_beside`). Faults, queries, logins and transactions stay visible.
 //! `beside` wraps the backends of a list.
 //!
-//! A new call of `cj_backend` needs a line in `src/backend.rt`. `proofs/Telling` has what a load tells, and
-//! `proofs/Crossing` shows that threads may pass a `Beside` on where they may its backend.
+//! A new call of `cj_backend` needs a method in `src/backend.rt`. `proofs/Wrapping` has what wrapped backends tell, and
+//! `proofs/Crossing` shows that a `Beside` may cross to another thread where its backend may.
 #![tactic(auto)]
 
 mod backend;

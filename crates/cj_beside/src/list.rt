@@ -12,6 +12,7 @@ use cj_outside::Store;
 pub fn beside<B: Backend + Drop, D: Store>(
     backends: ListOf<B>,
 ) -> Result<ListOf<Beside<B, D>>, NoMemory>
+    ensures inner { IfOk result (λ made. map (λ b. b.inner) made ≡ backends) }
     ensures count { IfOk result (λ made. length made ≡ length backends) }
     ensures told { IfOk result (λ made. map ⟦<Beside<B, D> as Backend>⟧.told made ≡ map (λ b. told_beside D.tells (B.told b)) backends) }
     ensures begun { IfOk result (λ made. map ⟦<Beside<B, D> as Backend>⟧.begun made ≡ map B.begun backends) }
