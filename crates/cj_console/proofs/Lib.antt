@@ -1,0 +1,3 @@
+pub mod Chatting
+pub mod Obeying
+pub mod Rightness
