@@ -15,8 +15,8 @@ use Rattle.cj_console.specs.Steps.{IsTakenLine, TakesLine, WritesAnswer, WritesI
 use Rattle.cj_console.specs.Texts.{answer_text}
 use Rattle.cj_console.specs.declared.answer.Answer.{Answer}
 use Rattle.cj_console.specs.declared.answer.Answer.TheVariants.{Done}
-use Rattle.cj_console.specs.declared.console.ConsoleEnd.{ConsoleEnd}
-use Rattle.cj_console.specs.declared.console.ConsoleEnd.TheVariants.{Quit, Eof, ReadFault, WriteFault, Spent, NoMemory}
+use Rattle.cj_console.specs.declared.chat.ConsoleEnd.{ConsoleEnd}
+use Rattle.cj_console.specs.declared.chat.ConsoleEnd.TheVariants.{Quit, Eof, ReadFault, WriteFault, Spent, NoMemory}
 
 -- ---- lines that got their answers
 

@@ -1,3 +1,3 @@
+pub mod Answering
 pub mod Chatting
-pub mod Obeying
 pub mod Rightness
