@@ -5,16 +5,13 @@ use mathlib.Core.List.{IsPrefix}
 use Rattle.std.specs.Str.{bytes_eq}
 use Rattle.std.proofs.lemmas.List.Elements.{All-contains, All-contains_itself, All-filter, Contains-push_cases}
 use Rattle.std.proofs.lemmas.Option.{get_or_from_slice_get, slice_get_within}
-use Rattle.cj_model.specs.Database.Storable.{IsStorable}
 use Rattle.cj_cluster.specs.declared.event.Event.{Event}
 use Rattle.cj_cluster.specs.declared.event.Event.TheVariants.{Disabled, Marker}
-use Rattle.cj_cluster.specs.History.Histories.{database_after, log}
 use Rattle.cj_cluster.specs.History.Legality.{IsLegal}
-use Rattle.cj_cluster.proofs.Pushed.{at-prefix, log-prefix, prefix_length, prefix_trans}
+use Rattle.cj_cluster.proofs.Pushed.{prefix_trans}
 use Rattle.cj_place.specs.Layouts.{Layout}
 use Rattle.cj_board.specs.declared.view.SeatView.{SeatView}
 use Rattle.cj_dump.specs.declared.dump.Dump.{Dump}
-use Rattle.cj_dump.specs.Coverage.{HasCoveredTables}
 use Rattle.cj_dump.specs.Dumps.{IsDump}
 use Rattle.cj_shelf.specs.Shelves.{first_of, ShelfState}
 use Rattle.cj_locks.specs.Restoring.{IsRightDump}
@@ -22,28 +19,19 @@ use Rattle.cj_backup.specs.Backups.{BacksUp}
 use Rattle.cj_backup.specs.declared.backing.BackupError.{BackupError}
 use Rattle.cj_backup.specs.declared.backing.BackupError.TheVariants as errors
 use Rattle.cj_backup.proofs.Rightness.{dump_is_right}
+use Rattle.cj_replay.proofs.Restored.{right_later}
 use Rattle.cj_console.specs.Answers.{AreRightDumps}
 
 -- ---- the history grows
 
--- a dump that may be loaded may be loaded later
-right_dump_later : (tells : Bool) (F G : List Event) (d : Dump) → IsPrefix F G → IsRightDump tells F d → IsRightDump tells G d
-right_dump_later tells F G d longer is =
-    let more : IsPrefix (log F) (log G) = log-prefix F G longer in
-    let length_more : length (log F) ≤ length (log G) = prefix_length (log F) (log G) more in
-    record {
-      storable = is.storable;
-      within = λ on. (let inside : d.position ≤ length (log F) = is.within on in omega (arith, inside, length_more));
-      right = λ on. subst (HasCoveredTables d) (sym (at-prefix (log F) (log G) d.position more (is.within on))) (is.right on);
-    }
-
-pub right_later : (tells : Bool) (F G : List Event) (dumps : List Dump) → IsPrefix F G → AreRightDumps tells F dumps → AreRightDumps tells G dumps
-right_later tells F G dumps longer are on d there = right_dump_later tells F G d longer (are on d there)
+-- dumps that may be loaded may be loaded later
+pub all_later : (tells : Bool) (F G : List Event) (dumps : List Dump) → IsPrefix F G → AreRightDumps tells F dumps → AreRightDumps tells G dumps
+all_later tells F G dumps longer are on d there = right_later tells F G d longer (are on d there)
 
 -- the dumps stayed, where the shelf's store tells
 pub right_kept : (tells kept : Bool) (F G : List Event) (dumps now : List Dump) → (tells ≡ true → kept ≡ true) → (kept ≡ true → now ≡ dumps) → IsPrefix F G → AreRightDumps tells F dumps → AreRightDumps tells G now
 right_kept tells kept F G dumps now keeps same longer are on =
-    subst (λ (l : List Dump). (d : Dump) → Contains l d → IsRightDump tells G d) (sym (same (keeps on))) (right_later tells F G dumps longer are on)
+    subst (λ (l : List Dump). (d : Dump) → Contains l d → IsRightDump tells G d) (sym (same (keeps on))) (all_later tells F G dumps longer are on)
 
 -- ---- a dump is looked up
 
@@ -83,7 +71,7 @@ module _ {D : Type 0} (tells kept : Bool) (l : Layout) (b : ℕ) (name : List �
   pub backed_right : (r : Result ℕ BackupError) → b < length l.names → (tells ≡ true → kept ≡ true) → IsLegal G → IsPrefix old.front new.front → IsPrefix new.front G → AreRightDumps tells old.front shelf.dumps → BacksUp tells kept l b name old new shelf now r → AreRightDumps tells G now.dumps
   backed_right (Ok n) below keeps legal longer later are (fresh, marks, d, dump, position, names, dumps) on =
       let at : IsPrefix marks.m G = prefix_trans marks.m new.front G (prefix_trans marks.m (marks.m ++ Marker name (Some b) ∷ Disabled b ∷ []) new.front (Marker name (Some b) ∷ Disabled b ∷ [], refl) marks.seen) later in
-      let old_right : (x : Dump) → Contains shelf.dumps x → IsRightDump tells G x = right_later tells old.front G shelf.dumps (prefix_trans old.front new.front G longer later) are on in
+      let old_right : (x : Dump) → Contains shelf.dumps x → IsRightDump tells G x = all_later tells old.front G shelf.dumps (prefix_trans old.front new.front G longer later) are on in
       let new_right : IsRightDump tells G d = dump_is_right tells l marks.m G name b d below legal at dump in
       subst (λ (list : List Dump). (x : Dump) → Contains list x → IsRightDump tells G x) (sym (dumps (keeps on)))
       (λ x there. pushed_right tells G shelf.dumps d x old_right new_right (Contains-push_cases shelf.dumps d x there))
