@@ -113,3 +113,23 @@ fn a_dump_that_is_not_stored_keeps_its_name_in_the_log(rt: HostRuntime) -> Resul
     play(&rt, alloc, replicated(&rt, alloc)?, faults, &[Step::Rows(&rows)])?;
     Ok(())
 }
+
+/// The start takes three calls of the log's store.
+#[test]
+fn no_marker_is_set_while_the_log_fails(rt: HostRuntime) -> Result<(), Fail> {
+    let alloc = rt.alloc();
+    let faults = Faults { log: 4, ..NO_FAULTS };
+    let backups: [Row<'_>; 3] = [
+        ("backup b1 d", "refused LogFault\n"),
+        ("backup b1 d", "ok 0\n"),
+        ("show log 0 1", "marker d after 0 backend=b1\n"),
+    ];
+    play(&rt, alloc, replicated(&rt, alloc)?, faults, &[Step::Rows(&backups)])?;
+    let checkpoints: [Row<'_>; 3] = [
+        ("checkpoint c", "refused LogFault\n"),
+        ("checkpoint c", "ok 0\n"),
+        ("show log 0 1", "marker c after 0 backend=-\n"),
+    ];
+    play(&rt, alloc, replicated(&rt, alloc)?, faults, &[Step::Rows(&checkpoints)])?;
+    Ok(())
+}
