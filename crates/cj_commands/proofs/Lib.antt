@@ -1,1 +1,4 @@
+pub mod Arguing
 pub mod CommandLines
+pub mod Common
+pub mod Found

@@ -55,7 +55,7 @@ IsRange rest (from, to) = (last : List ℕ) × IsNumbered rest from last × IsNu
 abbrev pub IsLogRange : List ℕ → ℕ × ℕ → Type 0
 IsLogRange rest range = (numbers : List ℕ) × IsRange numbers range × (rest ≡ codes "log" ++ 32 ∷ numbers)
 
--- the argument says what is to be shown
+-- the arguments say what is to be shown
 abbrev pub AsksToShow : List ℕ → Command → Type 0
 AsksToShow rest c =
     (((rest ≡ codes "backends") × (c ≡ command.ShowBackends)) ⊎ ((rest ≡ codes "cache") × (c ≡ command.ShowCache)))
@@ -73,27 +73,47 @@ pub record LacksNamed (names : List (List ℕ)) (rest : List ℕ) : Type 0 where
   pub named : is_name name ≡ true
   pub parts : rest ≡ word ++ 32 ∷ name
 
--- after `enable` and a space this is a backend's name, alone or with that of a dump
+-- the argument is a checkpoint's name
+abbrev pub AsksToCheckpoint : List ℕ → Command → Type 0
+AsksToCheckpoint rest c = (is_name rest ≡ true) × (c ≡ command.Checkpoint rest)
+
+-- the argument is a backend's name
+abbrev pub AsksToDisable : List (List ℕ) → List ℕ → Command → Type 0
+AsksToDisable names rest c = (b : ℕ) × IsBackend names rest b × (c ≡ command.Disable b)
+
+-- the arguments are a backend's name, alone or with that of a dump
 abbrev pub AsksToEnable : List (List ℕ) → List ℕ → Command → Type 0
 AsksToEnable names rest c =
     ((b : ℕ) × IsBackend names rest b × (c ≡ command.Enable b None))
     ⊎ ((b : ℕ) × (name : List ℕ) × HasBackendAndName names rest (b, name) × (c ≡ command.Enable b (Some name)))
 
+-- or they are so but for a backend that has the name
+abbrev pub LacksToEnable : List (List ℕ) → List ℕ → Type 0
+LacksToEnable names rest = IsNoBackend names rest ⊎ LacksNamed names rest
+
+-- the arguments are a backend's name and that of a dump
+abbrev pub AsksToBackup : List (List ℕ) → List ℕ → Command → Type 0
+AsksToBackup names rest c = (b : ℕ) × (name : List ℕ) × HasBackendAndName names rest (b, name) × (c ≡ command.Backup b name)
+
+-- the argument is a transaction's number
+abbrev pub AsksToAbort : List ℕ → Command → Type 0
+AsksToAbort rest c = (tx : ℕ) × IsNumber rest tx × (c ≡ command.Abort tx)
+
 -- after this verb and a space these are the arguments of the command
 abbrev pub AsksFor : List (List ℕ) → Verb → List ℕ → Command → Type 0
 AsksFor names Show rest c = AsksToShow rest c
-AsksFor names Checkpoint rest c = (is_name rest ≡ true) × (c ≡ command.Checkpoint rest)
-AsksFor names Disable rest c = (b : ℕ) × IsBackend names rest b × (c ≡ command.Disable b)
+AsksFor names Checkpoint rest c = AsksToCheckpoint rest c
+AsksFor names Disable rest c = AsksToDisable names rest c
 AsksFor names Enable rest c = AsksToEnable names rest c
-AsksFor names Backup rest c = (b : ℕ) × (name : List ℕ) × HasBackendAndName names rest (b, name) × (c ≡ command.Backup b name)
-AsksFor names Abort rest c = (tx : ℕ) × IsNumber rest tx × (c ≡ command.Abort tx)
+AsksFor names Backup rest c = AsksToBackup names rest c
+AsksFor names Abort rest c = AsksToAbort rest c
 
--- after this verb and a space these are its arguments, but no backend has the name among them
+-- after this verb and a space these are its arguments but for a backend that has the name among them
 abbrev pub LacksAmong : List (List ℕ) → Verb → List ℕ → Type 0
 LacksAmong names Show rest = ⊥
 LacksAmong names Checkpoint rest = ⊥
 LacksAmong names Disable rest = IsNoBackend names rest
-LacksAmong names Enable rest = IsNoBackend names rest ⊎ LacksNamed names rest
+LacksAmong names Enable rest = LacksToEnable names rest
 LacksAmong names Backup rest = LacksNamed names rest
 LacksAmong names Abort rest = ⊥
 

@@ -1,11 +1,10 @@
 //! What follows the first word of a line. Each function reads the arguments of one verb, without the verb.
 
-ghost use Rattle.std.specs.Prelude.{◌≡◌, ◌≤◌, length};
+ghost use Rattle.std.specs.Prelude.{◌≤◌, length};
 ghost use Rattle.cj_cluster.specs.Script.Lines.{IsBackend};
 ghost use Rattle.cj_words.specs.Words.{FindsValue};
 ghost use Rattle.cj_commands.specs.Commands.{IsNoBackend};
-ghost use Rattle.cj_commands.specs.Reading.{AsksFor, AsksToEnable, AsksToShow, HasBackendAndName, IsLogRange, IsRange, IsReadAs, LacksAmong, LacksNamed};
-ghost use Rattle.cj_commands.specs.declared.verb.Verb.TheVariants as spec;
+ghost use Rattle.cj_commands.specs.Reading.{AsksFor, AsksToAbort, AsksToBackup, AsksToCheckpoint, AsksToDisable, AsksToEnable, AsksToShow, HasBackendAndName, IsLogRange, IsRange, IsReadAs, LacksAmong, LacksNamed, LacksToEnable};
 
 use crate::command::{Command, Unread};
 use crate::verb::Verb;
@@ -57,7 +56,7 @@ fn show(rest: &[u8]) -> Result<Command, Unread>
 }
 
 fn checkpoint(rest: &[u8]) -> Result<Command, Unread>
-    ensures { IsReadAs (AsksFor [] spec.Checkpoint rest.now) ⊥ result }
+    ensures { IsReadAs (AsksToCheckpoint rest.now) ⊥ result }
 {
     match Name::of(rest) {
         Some(name) => Ok(Command::Checkpoint(name)),
@@ -100,7 +99,7 @@ fn backend_and_name(names: &Names, rest: &[u8]) -> Result<(u8, Name), Unread>
 
 fn disable(names: &Names, rest: &[u8]) -> Result<Command, Unread>
     requires { length names.now ≤ BACKEND_LIMIT }
-    ensures { IsReadAs (AsksFor names.now spec.Disable rest.now) (LacksAmong names.now spec.Disable rest.now) result }
+    ensures { IsReadAs (AsksToDisable names.now rest.now) (IsNoBackend names.now rest.now) result }
 {
     let b = backend_of(names, rest)?;
     Ok(Command::Disable(b))
@@ -108,7 +107,7 @@ fn disable(names: &Names, rest: &[u8]) -> Result<Command, Unread>
 
 fn enable(names: &Names, rest: &[u8]) -> Result<Command, Unread>
     requires { length names.now ≤ BACKEND_LIMIT }
-    ensures { IsReadAs (AsksToEnable names.now rest.now) (LacksAmong names.now spec.Enable rest.now) result }
+    ensures { IsReadAs (AsksToEnable names.now rest.now) (LacksToEnable names.now rest.now) result }
 {
     if is_word(rest) {
         let b = backend_of(names, rest)?;
@@ -120,14 +119,14 @@ fn enable(names: &Names, rest: &[u8]) -> Result<Command, Unread>
 
 fn backup(names: &Names, rest: &[u8]) -> Result<Command, Unread>
     requires { length names.now ≤ BACKEND_LIMIT }
-    ensures { IsReadAs (AsksFor names.now spec.Backup rest.now) (LacksAmong names.now spec.Backup rest.now) result }
+    ensures { IsReadAs (AsksToBackup names.now rest.now) (LacksNamed names.now rest.now) result }
 {
     let (b, name) = backend_and_name(names, rest)?;
     Ok(Command::Backup(b, name))
 }
 
 fn abort(rest: &[u8]) -> Result<Command, Unread>
-    ensures { IsReadAs (AsksFor [] spec.Abort rest.now) ⊥ result }
+    ensures { IsReadAs (AsksToAbort rest.now) ⊥ result }
 {
     match number(rest) {
         Some(tx) => Ok(Command::Abort(tx)),
