@@ -9,8 +9,8 @@ use Rattle.cj_console.specs.Answers.{AnswersLine, Served, Standing}
 use Rattle.cj_console.specs.Texts.{answer_text}
 use Rattle.cj_console.specs.declared.answer.Answer.{Answer}
 use Rattle.cj_console.specs.declared.answer.Answer.TheVariants.{NoCommand}
-use Rattle.cj_console.specs.declared.console.ConsoleEnd.{ConsoleEnd}
-use Rattle.cj_console.specs.declared.console.ConsoleEnd.TheVariants.{Quit, Eof, ReadFault, WriteFault, Spent, NoMemory}
+use Rattle.cj_console.specs.declared.chat.ConsoleEnd.{ConsoleEnd}
+use Rattle.cj_console.specs.declared.chat.ConsoleEnd.TheVariants.{Quit, Eof, ReadFault, WriteFault, Spent, NoMemory}
 
 -- the line that ends a chat
 abbrev pub quit_line : List ℕ

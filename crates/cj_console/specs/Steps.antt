@@ -9,8 +9,8 @@ use Rattle.cj_outside.specs.declared.lines.LineError.TheVariants as errors
 use Rattle.cj_outside.specs.Lines.{GivesLine, line_limit, ReaderState}
 use Rattle.cj_commands.specs.declared.command.Command.{Command}
 use Rattle.cj_commands.specs.declared.command.Command.TheVariants as commands
-use Rattle.cj_console.specs.declared.console.ConsoleEnd.{ConsoleEnd}
-use Rattle.cj_console.specs.declared.console.ConsoleEnd.TheVariants.{Quit, Eof, ReadFault, WriteFault, Spent, NoMemory}
+use Rattle.cj_console.specs.declared.chat.ConsoleEnd.{ConsoleEnd}
+use Rattle.cj_console.specs.declared.chat.ConsoleEnd.TheVariants.{Quit, Eof, ReadFault, WriteFault, Spent, NoMemory}
 
 -- ---- a line is taken
 

@@ -10,10 +10,10 @@
 #![tactic(auto)]
 
 mod answer;
-mod console;
+mod chat;
 mod obeying;
 mod shelved;
 mod texts;
 
 pub use answer::Answer;
-pub use console::{ConsoleEnd, console};
+pub use chat::{ConsoleEnd, console};

@@ -172,7 +172,7 @@ fn obey<J: Naming, B: Backend, S: Store + Drop, D: Store, R: Wait>(
 }
 
 /// Lends the names of the backends. Counting them shows that they are few.
-fn names_of<J: Naming, B: Backend, S: Store + Drop>(control: &Control<J, B, S>) -> &Names
+fn names_of<J: Naming, B: Backend + Drop, S: Store + Drop>(control: &Control<J, B, S>) -> &Names
     ensures names { result.now ≡ J.layout.names }
     ensures few { length result.now ≤ BACKEND_LIMIT }
 {
@@ -182,7 +182,7 @@ fn names_of<J: Naming, B: Backend, S: Store + Drop>(control: &Control<J, B, S>) 
 }
 
 /// Carries out the command that a line is, and returns its answer. A line that is none changes nothing.
-pub fn answer_line<J: Naming, B: Backend, S: Store + Drop, D: Store, R: Wait>(
+pub fn answer_line<J: Naming, B: Backend + Drop, S: Store + Drop, D: Store, R: Wait>(
     rt: &R,
     control: &Control<J, B, S>,
     pass: &mut Pass<J>,

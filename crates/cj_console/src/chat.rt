@@ -10,7 +10,7 @@ ghost use Rattle.cj_console.specs.Answers.{AreRightDumps};
 ghost use Rattle.cj_console.specs.Chats.{ChatsTo, GetsAnswer, quit_line};
 ghost use Rattle.cj_console.specs.Steps.{IsTakenLine, TakesLine, WritesAnswer};
 ghost use Rattle.cj_console.specs.Texts.{answer_text};
-ghost use Rattle.cj_console.specs.declared.console.ConsoleEnd.TheVariants as ends;
+ghost use Rattle.cj_console.specs.declared.chat.ConsoleEnd.TheVariants as ends;
 
 use crate::answer::Answer;
 use crate::obeying::answer_line;
@@ -73,7 +73,7 @@ fn is_quit(line: &Option<Vec<u8>>) -> bool
 }
 
 /// Returns the answer to a line that was read.
-fn answer_of<J: Naming, B: Backend, S: Store + Drop, D: Store, R: Wait>(
+fn answer_of<J: Naming, B: Backend + Drop, S: Store + Drop, D: Store, R: Wait>(
     rt: &R,
     control: &Control<J, B, S>,
     pass: &mut Pass<J>,
@@ -126,7 +126,7 @@ fn write_answer<O: Sink>(alloc: Global, answer: &Answer, output: &mut O) -> Resu
 ///
 /// The dumps of the shelf are those of this cluster's log. At every end what was carried out stays. After `NoMemory` and
 /// `WriteFault` the last command may have been carried out with its answer written in part.
-pub fn console<J: Naming, B: Backend, S: Store + Drop, D: Store, I: Source, O: Sink, R: Wait>(
+pub fn console<J: Naming, B: Backend + Drop, S: Store + Drop, D: Store, I: Source, O: Sink, R: Wait>(
     rt: &R,
     alloc: Global,
     control: &Control<J, B, S>,
