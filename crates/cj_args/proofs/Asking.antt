@@ -107,7 +107,7 @@ asked_is (word ∷ rest) = by_verb_is word rest (verb_of word) (verb_is word)
 
 as_work_some : (o : Option Command) → IsSome o → IsSome (as_work o)
 as_work_some None some = some
-as_work_some (Some command) some = tt
+as_work_some (Some command) some = refl
 
 no_serving : (o : Option (List ℕ)) → IsSome (over_file verb.Serve o) → ⊥
 no_serving None some = absurd (cc)
