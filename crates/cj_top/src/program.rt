@@ -272,7 +272,8 @@ pub fn run<F: Store, S: Store + Drop, I: Source, O: Sink, E: Sink, C: Clock>(
             log,
         },
         // A cluster is served by threads, which `cj_program` has.
-        Ok(Some(Asked::Serve { .. }) | None) => Ended { status: 2, log },
+        Ok(Some(Asked::Serve { .. })) => Ended { status: 2, log },
+        Ok(None) => Ended { status: 2, log },
         Err(NoMemory) => Ended { status: 1, log },
     }
 }
