@@ -1,7 +1,9 @@
 -- What the words are read as is what they ask for.
 use Rattle.std.proofs.Common.{◌≡◌, refl, sym, ap, subst, ◌∙◌, ℕ, Bool, true, false, ◌&&◌, List, [], ◌∷◌, codes, Bor, inl, inr}
-use Rattle.std.specs.Prelude.{IfSome, IsNone, IsSome, option_copied, option_map, if◌then◌else◌}
+use Rattle.std.specs.Prelude.{IfErr, IfSome, IsNone, IsSome, option_copied, option_map, if◌then◌else◌}
 use Rattle.std.specs.declared.option.Option.{Option}
+use Rattle.std.specs.declared.result.Result.{Result}
+use Rattle.std.specs.declared.result.Result.TheVariants.{Ok, Err}
 use Rattle.std.specs.declared.option.Option.TheVariants.{None, Some}
 use Rattle.std.specs.Str.{bytes_eq}
 use Rattle.std.proofs.lemmas.Bool.{and_parts}
@@ -104,6 +106,11 @@ asked_is [] = tt
 asked_is (word ∷ rest) = by_verb_is word rest (verb_of word) (verb_is word)
 
 -- ---- where work is read, the words ask for it
+
+-- what holds anyway holds at an error
+pub if_err : {T E : Type 0} {P : Type 0} (r : Result T E) → P → IfErr r (λ e. P)
+if_err (Ok x) p = tt
+if_err (Err e) p = p
 
 as_work_some : (o : Option Command) → IsSome o → IsSome (as_work o)
 as_work_some None some = some
