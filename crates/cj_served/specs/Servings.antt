@@ -2,7 +2,7 @@
 use Rattle.std.specs.Prelude.{◌≡◌, ◌⊎◌, ℕ, Bool, true, List, [], Result, Ok, Err}
 use Rattle.std.specs.declared.option.Option.{Option}
 use Rattle.cj_cluster.specs.declared.event.Event.{Event}
-use Rattle.cj_place.specs.Layouts.{Layout}
+use Rattle.cj_place.specs.Layouts.{Layout, placement_of}
 use Rattle.cj_board.specs.declared.view.SeatView.{SeatView}
 use Rattle.cj_dump.specs.declared.dump.Dump.{Dump}
 use Rattle.cj_log.specs.declared.item.LogItem.{LogItem}
@@ -12,8 +12,8 @@ use Rattle.cj_state.specs.Worlds.{WorldState}
 use Rattle.cj_core.specs.Starts.{CountsFaultOfStart, RefusesBytes}
 use Rattle.cj_console.specs.Answers.{AreRightDumps, Served, Standing}
 use Rattle.cj_console.specs.Chats.{ChatsTo}
-use Rattle.cj_console.specs.declared.console.ConsoleEnd.{ConsoleEnd}
-use Rattle.cj_console.specs.declared.console.ConsoleEnd.TheVariants as console
+use Rattle.cj_console.specs.declared.chat.ConsoleEnd.{ConsoleEnd}
+use Rattle.cj_console.specs.declared.chat.ConsoleEnd.TheVariants as console
 use Rattle.cj_serve.specs.declared.serving.ServeEnd.{ServeEnd}
 use Rattle.cj_serve.specs.declared.serving.ServeEnd.TheVariants as accepting
 use Rattle.cj_served.specs.declared.started.Unserved.{Unserved}
@@ -25,14 +25,18 @@ abbrev pub AreDumpsOfLog : (List LogItem → Type 0) → (List Dump → Type 0) 
 AreDumpsOfLog Found Keeps = (items : List LogItem) (opening : List Event) (dumps : List Dump) → Found items → OpensTo items opening → Keeps dumps → AreRightDumps true opening dumps
 
 -- From the history of a first world on a console chatted to this end, over the dumps that their store kept. Meanwhile
--- sessions were served. What the console sees then goes on from that history.
+-- sessions were served. What the console sees then goes on from that history. The layout is the one given, as far as it
+-- names the backends and says which of them host which tables.
 pub record ChatsFrom {D : Type 0} (s : Served D) (dumps : D) (left left' held held' : Option (List ℕ)) (first : WorldState) (ending : ConsoleEnd) : Type 0 where
+  pub layout : Layout
+  pub names : layout.names ≡ s.layout.names
+  pub hosts : placement_of layout ≡ placement_of s.layout
   pub view : SeatView
   pub begins : view.front ≡ first.core.history
   pub shelf : ShelfState D
   pub opened : s.kept ≡ true → Opens s.held (s.held dumps) (Ok shelf)
   pub last : Standing D
-  pub chats : ChatsTo s left left' held held' (record { view = view; shelf = shelf }) ending last
+  pub chats : ChatsTo (record { tells = s.tells; kept = s.kept; layout = layout; held = s.held; faults = s.faults }) left left' held held' (record { view = view; shelf = shelf }) ending last
 
 -- ---- statuses
 

@@ -6,7 +6,7 @@ ghost use Rattle.cj_outside.specs.Causes.{CountsFault};
 ghost use Rattle.cj_board.specs.Seats.{front, pass_view};
 ghost use Rattle.cj_console.specs.Answers.{AreRightDumps};
 ghost use Rattle.cj_console.specs.Chats.{ChatsTo};
-ghost use Rattle.cj_console.specs.declared.console.ConsoleEnd.TheVariants as ends;
+ghost use Rattle.cj_console.specs.declared.chat.ConsoleEnd.TheVariants as ends;
 
 use cj_backend::Backend;
 use cj_console::{ConsoleEnd, console};

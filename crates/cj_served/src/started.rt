@@ -16,7 +16,7 @@ ghost use Rattle.cj_state.specs.Worlds.{WorldState};
 ghost use Rattle.cj_board.specs.declared.view.SeatView.{SeatView};
 ghost use Rattle.cj_console.specs.Answers.{AreRightDumps, Standing};
 ghost use Rattle.cj_console.specs.Chats.{ChatsTo};
-ghost use Rattle.cj_console.specs.declared.console.ConsoleEnd.TheVariants as ends;
+ghost use Rattle.cj_console.specs.declared.chat.ConsoleEnd.TheVariants as ends;
 ghost use Rattle.cj_control.specs.Starting.{AreOfStarted};
 ghost use Rattle.cj_served.specs.Servings.{AreDumpsOfLog, ChatsFrom, RefusesServing};
 
