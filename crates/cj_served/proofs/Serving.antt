@@ -1,5 +1,5 @@
 -- What a start over a log hands to the serving of its cluster.
-use Rattle.std.proofs.Common.{◌≡◌, ℕ, Bool, true, List, [], ◌∷◌, ◌++◌, map, Result, Ok, Err, IfOk, refl, sym, ap, ◌∙◌, subst}
+use Rattle.std.proofs.Common.{◌≡◌, ℕ, Bool, true, List, [], ◌∷◌, ◌++◌, map, Ok, refl, sym, subst}
 use Rattle.std.specs.declared.option.Option.{Option}
 use mathlib.Core.List.{IsPrefix}
 use Rattle.cj_model.specs.Cluster.Placements.{Placement}
@@ -11,12 +11,10 @@ use Rattle.cj_board.specs.declared.view.SeatView.{SeatView}
 use Rattle.cj_dump.specs.declared.dump.Dump.{Dump}
 use Rattle.cj_log.specs.declared.item.LogItem.{LogItem}
 use Rattle.cj_shelf.specs.Shelves.{Opens, ShelfState}
-use Rattle.cj_state.specs.Sharing.{IsBookOf}
-use Rattle.cj_state.specs.Worlds.{Setup, WorldState}
+use Rattle.cj_state.specs.Worlds.{WorldState}
 use Rattle.cj_start.specs.Started.{AbortsEach, with_abort}
-use Rattle.cj_book.specs.Books.{BookState}
 use Rattle.cj_core.specs.Starts.{BackendState, StartsFrom}
-use Rattle.cj_console.specs.Answers.{AreRightDumps, Served, Standing}
+use Rattle.cj_console.specs.Answers.{AreRightDumps, Standing}
 use Rattle.cj_console.specs.Chats.{ChatsTo}
 use Rattle.cj_console.specs.declared.chat.ConsoleEnd.{ConsoleEnd}
 use Rattle.cj_console.proofs.Rightness.{all_later}

@@ -1,5 +1,5 @@
 -- How a cluster is served over its stores, a port and a console.
-use Rattle.std.specs.Prelude.{◌≡◌, ◌⊎◌, ℕ, Bool, true, List, [], Result, Ok, Err}
+use Rattle.std.specs.Prelude.{◌≡◌, ℕ, Bool, true, List, Ok, Err}
 use Rattle.std.specs.declared.option.Option.{Option}
 use Rattle.cj_cluster.specs.declared.event.Event.{Event}
 use Rattle.cj_place.specs.Layouts.{Layout, placement_of}
@@ -7,7 +7,7 @@ use Rattle.cj_board.specs.declared.view.SeatView.{SeatView}
 use Rattle.cj_dump.specs.declared.dump.Dump.{Dump}
 use Rattle.cj_log.specs.declared.item.LogItem.{LogItem}
 use Rattle.cj_recovery.specs.Openings.{OpensTo}
-use Rattle.cj_shelf.specs.Shelves.{CountsOpenFault, KeepsDumps, Opens, ShelfState}
+use Rattle.cj_shelf.specs.Shelves.{CountsOpenFault, Opens, ShelfState}
 use Rattle.cj_state.specs.Worlds.{WorldState}
 use Rattle.cj_core.specs.Starts.{CountsFaultOfStart, RefusesBytes}
 use Rattle.cj_console.specs.Answers.{AreRightDumps, Served, Standing}

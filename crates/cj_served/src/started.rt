@@ -1,12 +1,12 @@
 //! The start of a cluster that is served.
 
-ghost use Rattle.std.specs.Prelude.{◌≡◌, ◌≢◌, ◌↔◌, ◌+◌, ◌≤◌, true, length, map, vec_capacity, IfErr, IfOk, OnErr, OnOk, Ok, Err};
+ghost use Rattle.std.specs.Prelude.{◌≡◌, ◌≢◌, ◌↔◌, ◌+◌, ◌≤◌, true, length, map, vec_capacity, IfErr, IfOk, OnErr};
 ghost use Rattle.std.specs.Result.{IsOkAnd};
 ghost use Rattle.cj_outside.specs.Causes.{CountsFault};
 ghost use Rattle.cj_outside.specs.Stores.{Only};
 ghost use Rattle.cj_model.specs.declared.limits.TheConstants.{BACKEND_LIMIT};
 ghost use Rattle.cj_model.specs.Cluster.Caching.{empty_cache};
-ghost use Rattle.cj_board.specs.Seats.{board_id, front, pass_board};
+ghost use Rattle.cj_board.specs.Seats.{board_id, pass_board};
 ghost use Rattle.cj_core.specs.Starts.{HaveBegunNone, StartsFrom, state_by};
 ghost use Rattle.cj_log.specs.Logs.{KeepsItems};
 ghost use Rattle.cj_place.specs.Layouts.{placement_of};
