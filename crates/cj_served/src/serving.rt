@@ -144,9 +144,6 @@ pub(crate) fn chat_and_serve<
 
 /// Has a console chat on the streams, and meanwhile serves sessions over so many connections of the port, 0 for any
 /// number. Returns how both ended, once they have. Where no thread can be made, the console comes after the accepting.
-
-/// Has a console chat on the streams, and meanwhile serves sessions over so many connections of the port, 0 for any
-/// number. Returns how both ended, once they have. Where no thread can be made, the console comes after the accepting.
 pub(crate) fn chat_and_serve_b<
     J: Naming + Send + Sync + 'static,
     B: Backend + Send + Drop + 'static,
@@ -192,6 +189,3 @@ pub(crate) fn chat_and_serve_b<
         &mut || accept(rt, offer, control, &mut accepting, port, spawner, clock),
     )
 }
-
-/// Has a console chat on the streams, and meanwhile serves sessions over so many connections of the port, 0 for any
-/// number. Returns how both ended, once they have. Where no thread can be made, the console comes after the accepting.
