@@ -1,5 +1,5 @@
 -- What a command is answered, as the answer to its line.
-use Rattle.std.proofs.Common.{◌≡◌, ◌≢◌, ℕ, ◌<◌, Bool, true, List, [], ◌∷◌, length, Some, None, Result, Ok, Err, inl, inr, refl, ap, sym, subst, arith, get_or}
+use Rattle.std.proofs.Common.{◌≡◌, ◌≢◌, ℕ, ◌<◌, Bool, true, List, [], ◌∷◌, length, Some, None, Result, Ok, Err, inl, inr, refl, ap, sym, ◌∙◌, subst, arith}
 use Rattle.std.specs.Str.{bytes_eq}
 use Rattle.std.proofs.lemmas.Bool.{false≢true}
 use Rattle.std.proofs.lemmas.List.Quantifiers.{position-Some}
@@ -119,10 +119,6 @@ command_answered {D} s line c a z answer is answers = (c, is, answers)
 
 -- ---- the line that ends a chat
 
--- another first byte
-other_byte : (b : ℕ) (rest : List ℕ) → quit_line ≡ b ∷ rest → b ≢ 113 → ⊥
-other_byte b rest is other = other (sym (ap (λ (l : List ℕ). get_or l 0 0) is))
-
 quit_command : (names : List (List ℕ)) (c : Command) → CommandLine names quit_line c → c ≡ commands.Quit
 quit_command names commands.ShowBackends is = cc
 quit_command names (commands.ShowLog from to) (first, last, p, q, is) = cc
@@ -151,7 +147,7 @@ module _ {D : Type 0} (s : Served D) (a z : Standing D) where
       let quits : AnswersCommand s commands.Quit a z answer = subst (λ (x : Command). AnswersCommand s x a z answer) (quit_command s.layout.names c is) answers in
       let view : z.view ≡ a.view = quits.answers.1 in
       let shelf : z.shelf ≡ a.shelf = quits.shelf in
-      (quits.answers.0, cc)
+      (quits.answers.0, ap (λ (v : SeatView). standing v z.shelf) view ∙ ap (standing a.view) shelf)
 
   quit_answered : (answer : Answer) → AnswersLine s quit_line a z answer → (answer ≡ Done) × (z ≡ a)
   quit_answered NoCommand answers = absurd (answers.1.0 commands.Quit refl)

@@ -1,5 +1,5 @@
 -- How a chat comes from line to line.
-use Rattle.std.proofs.Common.{◌≡◌, ◌≢◌, ℕ, ◌+◌, ◌<◌, List, [], ◌∷◌, ◌++◌, length, Option, Some, None, Ok, Err, inl, inr, refl, sym, ap, subst, ◌∙◌, arith, append_assoc, append-nil}
+use Rattle.std.proofs.Common.{◌≡◌, ◌≢◌, ℕ, ◌+◌, ◌<◌, Bool, List, [], ◌∷◌, ◌++◌, length, Option, Some, None, Ok, Err, inl, inr, refl, sym, ap, subst, ◌∙◌, arith, append_assoc, append-nil}
 use Rattle.std.specs.Prelude.{IsSome}
 use Rattle.std.specs.Global.{Vec}
 use Rattle.std.specs.Io.KnownBytes.{Appends, Consumes}
@@ -7,6 +7,9 @@ use Rattle.std.proofs.lemmas.List.Elements.{All-push, All-nil}
 use Rattle.cj_outside.specs.declared.lines.Line.TheVariants.{Text, Long}
 use Rattle.cj_outside.specs.Lines.{IsInLine, ReaderState, TookBytes}
 use Rattle.cj_outside.proofs.Joined.{appends_none, appends_then, consumes_none}
+use Rattle.cj_place.specs.Layouts.{Layout}
+use Rattle.cj_board.specs.declared.view.SeatView.{SeatView}
+use Rattle.cj_shelf.specs.Shelves.{ShelfState}
 use Rattle.cj_words.specs.LinesInBytes.{IsNextLine, LieIn}
 use Rattle.cj_words.proofs.LinesInBytes.{longer, takes_off}
 use Rattle.cj_console.specs.Answers.{Served, Standing}
@@ -27,6 +30,14 @@ chats_more {D} s a [] written mid line answer z before next =
     (z, answer, [], subst (λ (x : Standing D). GetsAnswer s line x z answer) before.1 next, (refl, refl), ap (λ (t : List ℕ). t ++ answer_text answer) before.0 ∙ sym (append-nil (answer_text answer)))
 chats_more {D} s a (l ∷ lines) written mid line answer z (d, first, rest, gets, others, is) next =
     (d, first, rest ++ answer_text answer, gets, chats_more s d lines rest mid line answer z others next, ap (λ (t : List ℕ). t ++ answer_text answer) is ∙ append_assoc (answer_text first) rest (answer_text answer))
+
+-- ---- what is served, and from where the chat goes on
+
+abbrev pub served_of : {D : Type 0} → Bool → Bool → Layout → (D → List ℕ) → (D → ℕ) → Served D
+served_of tells kept layout held faults = record { tells = tells; kept = kept; layout = layout; held = held; faults = faults }
+
+abbrev pub standing_at : {D : Type 0} → SeatView → ShelfState D → Standing D
+standing_at view shelf = record { view = view; shelf = shelf }
 
 module _ {D : Type 0} (s : Served D) (left held : Option (List ℕ)) (a : Standing D) where
   -- ---- between two lines

@@ -55,7 +55,7 @@ pushed_right : (tells : Bool) (G : List Event) (dumps : List Dump) (d x : Dump) 
 pushed_right tells G dumps d x old new (inl there) = old x there
 pushed_right tells G dumps d x old new (inr is) = subst (IsRightDump tells G) is new
 
-module _ {D : Type 0} (tells kept : Bool) (l : Layout) (b : ℕ) (name : List ℕ) (old new : SeatView) (shelf now : ShelfState D) (G : List Event) where
+module _ {D : Type 0} (tells kept : Bool) (l : Layout) (b : ℕ) (name : List ℕ) (old new : SeatView) (shelf now : ShelfState D) where
   -- after a refusal the shelf has the dumps that it had
   refused_stays : (error : BackupError) → BacksUp tells kept l b name old new shelf now (Err error) → kept ≡ true → now.dumps ≡ shelf.dumps
   refused_stays errors.NotEnabled backs on = ap (λ (x : ShelfState D). x.dumps) backs.1
@@ -67,13 +67,15 @@ module _ {D : Type 0} (tells kept : Bool) (l : Layout) (b : ℕ) (name : List �
   refused_stays (errors.HistoryFull n) backs on = ap (λ (x : ShelfState D). x.dumps) backs.2
   refused_stays errors.NoMemory backs on = backs.1 on
 
-  -- what the shelf has then may be loaded, at each later history too
-  pub backed_right : (r : Result ℕ BackupError) → b < length l.names → (tells ≡ true → kept ≡ true) → IsLegal G → IsPrefix old.front new.front → IsPrefix new.front G → AreRightDumps tells old.front shelf.dumps → BacksUp tells kept l b name old new shelf now r → AreRightDumps tells G now.dumps
-  backed_right (Ok n) below keeps legal longer later are (fresh, marks, d, dump, position, names, dumps) on =
+  -- so they may be loaded still
+  pub refused_right : (error : BackupError) → (tells ≡ true → kept ≡ true) → IsPrefix old.front new.front → AreRightDumps tells old.front shelf.dumps → BacksUp tells kept l b name old new shelf now (Err error) → AreRightDumps tells new.front now.dumps
+  refused_right error keeps longer are backs = right_kept tells kept old.front new.front shelf.dumps now.dumps keeps (refused_stays error backs) longer are
+
+  -- and so they may with the dump that was added, at each later history
+  pub added_right : (n : ℕ) (G : List Event) → b < length l.names → (tells ≡ true → kept ≡ true) → IsLegal G → IsPrefix old.front new.front → IsPrefix new.front G → AreRightDumps tells old.front shelf.dumps → BacksUp tells kept l b name old new shelf now (Ok n) → AreRightDumps tells G now.dumps
+  added_right n G below keeps legal longer later are (fresh, marks, d, dump, position, names, dumps) on =
       let at : IsPrefix marks.m G = prefix_trans marks.m new.front G (prefix_trans marks.m (marks.m ++ Marker name (Some b) ∷ Disabled b ∷ []) new.front (Marker name (Some b) ∷ Disabled b ∷ [], refl) marks.seen) later in
       let old_right : (x : Dump) → Contains shelf.dumps x → IsRightDump tells G x = all_later tells old.front G shelf.dumps (prefix_trans old.front new.front G longer later) are on in
       let new_right : IsRightDump tells G d = dump_is_right tells l marks.m G name b d below legal at dump in
       subst (λ (list : List Dump). (x : Dump) → Contains list x → IsRightDump tells G x) (sym (dumps (keeps on)))
       (λ x there. pushed_right tells G shelf.dumps d x old_right new_right (Contains-push_cases shelf.dumps d x there))
-  backed_right (Err error) below keeps legal longer later are backs =
-      right_kept tells kept old.front G shelf.dumps now.dumps keeps (refused_stays error backs) (prefix_trans old.front new.front G longer later) are
