@@ -1,5 +1,5 @@
 -- What follows a verb is of one command at most, and of none if it lacks a backend.
-use Rattle.std.proofs.Common.{◌≡◌, ◌∙◌, refl, sym, ap, subst, ℕ, List, ◌∷◌, ◌++◌, codes, Some, None, inl, inr}
+use Rattle.std.proofs.Common.{◌≡◌, ◌∙◌, refl, sym, ap, subst, ℕ, List, codes, Some, None, inl, inr}
 use Rattle.cj_commands.proofs.Common.{HasNoSpace, IsBackend, IsNoBackend, IsNamed, IsNumber, LacksNamed, IsLogRange, IsRange, AsksToShow, AsksToEnable, AsksFor, LacksAmong, LacksToEnable, Command, Verb, Abort, Backup, Checkpoint, Disable, Enable, Show}
 use Rattle.cj_commands.specs.declared.command.Command.TheVariants as command
 use Rattle.cj_words.proofs.Cutting.{no_space, one_cut, numbered_one, named_one}
@@ -63,7 +63,7 @@ asked_one names Abort rest c d p q = p.2 ∙ ap command.Abort (number_one rest p
 
 -- ---- none if a backend is lacking
 
--- a word that is no backend's is none's name
+-- a word that names no backend isn't the name of one
 no_backend : (names : List (List ℕ)) (z : List ℕ) (b : ℕ) → IsNoBackend names z → IsBackend names z b → ⊥
 no_backend names z b none is = let same : None ≡ Some b = sym none.unnamed ∙ is.named in absurd (cc)
 

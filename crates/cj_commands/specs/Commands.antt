@@ -3,7 +3,7 @@ use Rattle.std.specs.Prelude.{◌≡◌, ◌⊎◌, ℕ, ◌<◌, true, List, []
 use Rattle.std.specs.declared.option.Option.TheVariants.{None, Some}
 use Rattle.std.specs.Str.{bytes_eq}
 use Rattle.cj_model.specs.Sql.Names.{is_name}
-use Rattle.cj_cluster.specs.Script.Lines.{HasNoSpace, IsBackend, IsNumber, NamesBackend, NamesDump, words}
+use Rattle.cj_cluster.specs.Script.Lines.{HasNoSpace, IsNumber, NamesBackend, NamesDump, words}
 use Rattle.cj_commands.specs.declared.command.Command.{Command}
 use Rattle.cj_commands.specs.declared.command.Command.TheVariants.{Abort, Audit, Backup, Checkpoint, Disable, Enable, Quit, ShowBackends, ShowCache, ShowLog}
 

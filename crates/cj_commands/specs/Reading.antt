@@ -17,7 +17,7 @@ use Rattle.cj_commands.specs.declared.command.Unread.TheVariants.{NoBackend, NoC
 use Rattle.cj_commands.specs.declared.verb.Verb.{Verb}
 use Rattle.cj_commands.specs.declared.verb.Verb.TheVariants.{Abort, Backup, Checkpoint, Disable, Enable, Show}
 
--- what was read is such a value; or only a backend of the name is lacking; or it is neither
+-- what a text was read as: such a value, or one for which a backend is lacking, or neither of both
 abbrev pub IsReadAs : {A : Type 0} → (A → Type 0) → Type 0 → Result A Unread → Type 0
 IsReadAs Is Lacks (Ok x) = Is x
 IsReadAs Is Lacks (Err NoBackend) = Lacks
@@ -87,7 +87,7 @@ AsksToEnable names rest c =
     ((b : ℕ) × IsBackend names rest b × (c ≡ command.Enable b None))
     ⊎ ((b : ℕ) × (name : List ℕ) × HasBackendAndName names rest (b, name) × (c ≡ command.Enable b (Some name)))
 
--- or they are so but for a backend that has the name
+-- the arguments are a word that could be a backend's name and is none's, alone or with the name of a dump
 abbrev pub LacksToEnable : List (List ℕ) → List ℕ → Type 0
 LacksToEnable names rest = IsNoBackend names rest ⊎ LacksNamed names rest
 
@@ -108,7 +108,7 @@ AsksFor names Enable rest c = AsksToEnable names rest c
 AsksFor names Backup rest c = AsksToBackup names rest c
 AsksFor names Abort rest c = AsksToAbort rest c
 
--- after this verb and a space these are its arguments but for a backend that has the name among them
+-- after this verb and a space these are arguments of its form, in which no backend has the name that is given
 abbrev pub LacksAmong : List (List ℕ) → Verb → List ℕ → Type 0
 LacksAmong names Show rest = ⊥
 LacksAmong names Checkpoint rest = ⊥

@@ -14,7 +14,7 @@ pub enum Command {
     /// Marks a checkpoint of this name in the log.
     Checkpoint(Name),
     Disable(u8),
-    /// Brings the backend back, from the dump of this name if there is one.
+    /// Brings the backend back, from the dump of this name if one is given.
     Enable(u8, Option<Name>),
     /// Takes a dump of the backend under this name, and brings the backend back.
     Backup(u8, Name),

@@ -5,7 +5,8 @@
 //! these (`lines_ask_for_one_command`). Nothing here takes memory.
 //! To change: a command is a variant in `command.rt` and a case of `CommandLine`. Its word concerns `verb.rt`, what
 //! follows that `arguments.rt`, and both `specs/Reading`.
-//! To read: `specs/Commands`, then `specs/Reading`, which says how the code reads. Proofs begin in `proofs/CommandLines`.
+//! To read: `specs/Commands`, then `specs/Reading`, which says how the code reads. Proofs begin in
+//! `proofs/CommandLines` (lines), `proofs/Arguing` and `proofs/Found` (arguments).
 #![tactic(auto)]
 
 mod arguments;

@@ -23,6 +23,7 @@ fn lone(word: &[u8]) -> Result<Command, Unread>
     Err(Unread::NoCommand)
 }
 
+/// Returns the command that a line is, or why it is none, in one fact for both.
 fn read(names: &Names, line: &[u8]) -> Result<Command, Unread>
     requires { length names.now ≤ BACKEND_LIMIT }
     ensures { IsReadAs (CommandLine names.now line.now) (NamesNoBackend names.now line.now) result }
@@ -36,12 +37,14 @@ fn read(names: &Names, line: &[u8]) -> Result<Command, Unread>
     }
 }
 
-/// Returns the command that a line is, which is given without its LF. `names` are those of the backends.
+/// Returns the command that a line is, which is given without its LF. `names` are those of the
+/// backends. Takes no memory.
 ///
 /// # Errors
 ///
-/// The form is looked at first. So `NoBackend` comes only for a line of a command's form, in which the word in a
-/// backend's place is the name of none. Every other line that is no command is `NoCommand`, also the empty line.
+/// `NoBackend` comes for a line of a command's form, in which the word in a backend's place is not
+/// empty and no backend's name. `NoCommand` comes for every other line that is no command, also
+/// for the empty line.
 pub fn read_command(names: &Names, line: &[u8]) -> Result<Command, Unread>
     requires { length names.now ≤ BACKEND_LIMIT }
     ensures ok { IfOk result (CommandLine names.now line.now) }

@@ -48,7 +48,8 @@ over_since own item m F h amount turn free begins longer whole =
     let behind : TurnStays F h = turn_stays F h longer none_behind in
     record { longer = longer; was_free = free_stays m F before ∙ free; entries = behind.entries; enabled = behind.enabled }
 
--- the same of the turn by itself, where H goes on from m, and F from H
+-- The turn has the amount of history m, from which H goes on, and F from H; the book stands at h. Only failures in
+-- reads came since H.
 pub held_since : (m H F h : List Event) (amount : ℕ) → amount ≡ turn_amount m None → is_free m ≡ true → IsPrefix m H → IsPrefix H F → IsPrefix F h → (item : Option Pending) → amount ≡ turn_amount h item → (G : List Event) → G ≡ h → IsHeldOver H G
 held_since m H F h amount turn free begins seen longer item whole G now = subst (IsHeldOver H) (sym now) (over_since None item m H h amount turn free begins (prefix_trans H F h seen longer) whole)
 
@@ -62,22 +63,9 @@ module _ {S : Type 0} (tells : Bool) (count : S → ℕ) (F h : List Event) (amo
   stays : TurnStays holds.m h
   stays = turn_stays holds.m h begins same.0
 
-  before : TurnStays holds.m F
-  before =
-      let few : turn_events_of holds.m ≤ turn_events_of F = events_grow holds.m F holds.seen in
-      let more : turn_events_of F ≤ turn_events_of h = events_grow F h longer in
-      let all : turn_events_of h ≡ turn_events_of holds.m = same.0 in
-      let no_more : turn_events_of F ≡ turn_events_of holds.m = omega (arith, few, more, all) in
-      turn_stays holds.m F holds.seen no_more
-
   -- only failures in reads came
   pub held_over : (G : List Event) → G ≡ h → IsHeldOver F G
-  held_over G now = subst (IsHeldOver F) (sym now) (record {
-    longer = longer;
-    was_free = free_stays holds.m F before ∙ holds.was_free;
-    entries = stays.entries ∙ sym before.entries;
-    enabled = λ b. stays.enabled b ∙ sym (before.enabled b);
-  })
+  held_over G now = subst (IsHeldOver F) (sym now) (over_since None item holds.m F h amount holds.turn holds.was_free holds.seen longer whole)
 
   -- so the turn is there again
   pub given_back : (book : SeatedBook) (k : BookLogState S) → book.state.history ≡ h → book.pending ≡ item → k ≡ l → IsVacant tells count book k

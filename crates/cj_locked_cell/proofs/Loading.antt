@@ -9,9 +9,8 @@ use Rattle.cj_cluster.proofs.Pushed.{at-prefix, log-prefix, prefix_length}
 use Rattle.cj_board.specs.declared.view.SeatView.{SeatView}
 use Rattle.cj_replica.specs.declared.replica.CellError.{CellError}
 use Rattle.cj_replica.specs.declared.replica.CellError.TheVariants.{Failed, Starved}
-use Rattle.cj_replica.specs.Cells.{CellState, LoadsDatabase, position_after}
+use Rattle.cj_replica.specs.Cells.{CellState, LoadsDatabase}
 use Rattle.cj_replica.specs.Seated.{SeatedCell, view_after_load}
-use Rattle.cj_locked_cell.specs.Asking.{NotesFault}
 use Rattle.cj_locked_cell.specs.Loading.{IsLoaded}
 use Rattle.cj_pass.specs.Passes.{HasNotedMore}
 use Rattle.cj_pass.proofs.Passes.{noted_self}
@@ -43,12 +42,9 @@ stands_within q r f h same begins within = subst (λ (o : Option ℕ). IfSome o 
 -- before
 module _ (s : CellState) (x y : SeatedCell) (db : List Slot) (n : ℕ) (tells : Bool) (r : Result Unit CellError) (v w : SeatView)
     (state : x.state ≡ s) (loads : LoadsDatabase tells x.state db n r y.state) (seat : y.view ≡ view_after_load x.state.b n x.view r)
-    (heard : (k : ℕ) → Contains v.fault_notes (s.b, k) → k ≤ x.view.faults) (placed : (p : ℕ) → y.state.position ≡ Some p → Contains w.position_notes (y.state.b, p)) (noted : Contains w.fault_notes (y.state.b, y.view.faults)) where
+    (heard : (k : ℕ) → Contains v.fault_notes (s.b, k) → k ≤ x.view.faults) (noted : Contains w.fault_notes (y.state.b, y.view.faults)) where
   number : y.state.b ≡ s.b
   number = loads.b ∙ ap (λ (z : CellState). z.b) state
-
-  pub loaded_at : r ≡ Ok tt → Contains w.position_notes (s.b, n)
-  loaded_at is = subst (λ b. Contains w.position_notes (b, n)) number (placed n (loads.place ∙ ap (position_after n) is))
 
   pub load_failed : (error : CellError) → r ≡ Err error → IsLoaded s.b n v w (Err error)
   load_failed Failed is = notes_fault s.b v w x.view.faults y.view.faults heard (ap (λ (z : SeatView). z.faults) (seat ∙ ap (view_after_load x.state.b n x.view) is)) (subst (λ b. Contains w.fault_notes (b, y.view.faults)) number noted)

@@ -1,6 +1,6 @@
 //! A cell behind its lock.
 
-ghost use Rattle.std.specs.Prelude.{◌≡◌, ◌≢◌, ◌-◌, ◌<◌, ◌≤◌, ℕ, List, true, length, Some, None, Ok, Err, slice_get, Contains, IfSome};
+ghost use Rattle.std.specs.Prelude.{◌≡◌, ◌≢◌, ◌-◌, ◌<◌, ◌≤◌, ℕ, List, true, length, Some, None, Err, slice_get, Contains, IfSome};
 ghost use mathlib.Core.List.{IsPrefix};
 ghost use Rattle.cj_model.specs.declared.request.Request.TheVariants as request;
 ghost use Rattle.cj_model.specs.Sql.WrittenRequests.{IsWritten};
@@ -12,7 +12,7 @@ ghost use Rattle.cj_cluster.specs.History.Histories.{database_after, is_enabled,
 ghost use Rattle.cj_cluster.specs.History.Legality.{IsLegal};
 ghost use Rattle.cj_board.specs.Seats.{front, pass_view};
 ghost use Rattle.cj_place.specs.Layouts.{placement_of};
-ghost use Rattle.cj_replica.specs.Cells.{GivesContents, LoadsDatabase, ReadsAnswer};
+ghost use Rattle.cj_replica.specs.Cells.{GivesContents, ReadsAnswer};
 ghost use Rattle.cj_locked_cell.specs.Asking.{GivesPart, NotesFault};
 ghost use Rattle.cj_locked_cell.specs.Loading.{IsLoaded, IsStandOf, LoadsOut, Stands};
 ghost use Rattle.cj_pass.specs.Passes.{HasNotedMore};

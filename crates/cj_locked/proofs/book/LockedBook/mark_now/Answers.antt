@@ -1,14 +1,14 @@
 use Rattle.std.proofs.Common.{rules, ◌≡◌, ◌+◌, List, length, true, Some, Ok, Err, refl, ap, sym, ◌∙◌, subst}
+use mathlib.Core.List.{IsPrefix}
 use Rattle.cj_cluster.specs.declared.event.Event.{Event}
 use Rattle.cj_cluster.specs.History.Histories.{is_free, log}
 use Rattle.cj_book.specs.BookLogs.{BookLogState, LogFollows}
 use Rattle.cj_book.specs.Books.{BookState}
 use Rattle.cj_book.specs.Events.{finished_as, marker_finished}
 use Rattle.cj_book.specs.declared.pending.Pending.TheVariants as pending
+use Rattle.cj_locked.specs.Auditing.{IsHeldOver}
 use Rattle.cj_locked.specs.Marking.{MarksAt}
 use Rattle.cj_locked.specs.Turns.{turn_amount}
-use mathlib.Core.List.{IsPrefix}
-use Rattle.cj_locked.specs.Auditing.{IsHeldOver}
 use Rattle.cj_locked.proofs.Holding.{over_since}
 use Rattle.cj_locked.proofs.Marking.{amount_marked, amount_unmarked, mark_follows, mark_fresh, mark_idle, mark_pending, mark_uncounted, marked_gives, marked_layout, marks_ok}
 use Rattle.cj_locked.proofs.Fresh.{fresh_marked}

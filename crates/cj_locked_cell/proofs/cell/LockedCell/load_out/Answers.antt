@@ -28,4 +28,4 @@ returns-in-Err-clause-more g c =
 pub returns-in-Err-clause-loaded : goal.returns-in-Err-clause-loaded
 returns-in-Err-clause-loaded g c =
     load_failed c.args.self.now.cell.state c.brief.new.self c.load-loaded.new.self c.args.db c.args.position g.B.Backend.tells c.load-loaded.result (pass_view c.args.pass.now.seat) (pass_view c.report.new.pass) c.brief.ensures.state c.load-loaded.ensures.state c.load-loaded.ensures.seat c.brief.ensures.faults
-    c.report.ensures.position c.report.ensures.faults c.in-Err.error c.in-Err.is
+    c.report.ensures.faults c.in-Err.error c.in-Err.is

@@ -6,7 +6,6 @@ use Rattle.cj_board.specs.Views.{pass_of}
 use Rattle.cj_cluster.specs.History.Histories.{is_enabled, log}
 use Rattle.cj_cluster.proofs.Pushed.{prefix_trans}
 use Rattle.cj_pass.specs.Passes.{HasNotedMore}
-use Rattle.cj_replica.specs.Cells.{CellState}
 use Rattle.cj_locked_cell.proofs.Asking.{stands_at_end, stands_noted}
 use Rattle.cj_locked_cell.proofs.Loading.{stands_within}
 use Rattle.cj_pass.proofs.Passes.{noted_joined}
