@@ -139,7 +139,7 @@ quit_names names (inr (inl (word, name, none, named, is))) = cc
 quit_names names (inr (inr (word, name, none, named, is))) = cc
 
 module _ {D : Type 0} (s : Served D) (a z : Standing D) where
-  standing : SeatView → ShelfState D → Standing D
+  abbrev standing : SeatView → ShelfState D → Standing D
   standing view shelf = record { view = view; shelf = shelf }
 
   quit_does : (c : Command) (answer : Answer) → CommandLine s.layout.names quit_line c → AnswersCommand s c a z answer → (answer ≡ Done) × (z ≡ a)

@@ -1,6 +1,7 @@
-use Rattle.std.proofs.Common.{List, ℕ, subst}
+use Rattle.std.proofs.Common.{◌≡◌, List, ℕ, Err, refl, subst}
 use Rattle.cj_board.specs.Seats.{pass_view}
 use Rattle.cj_commands.specs.Commands.{CommandLine, IsNoCommand, NamesNoBackend}
+use Rattle.cj_commands.specs.declared.command.Unread.TheVariants as unread
 use Rattle.cj_console.proofs.Answering.{can_obey, command_answered}
 use Rattle.cj_console.proofs.Chatting.{served_of, standing_at}
 use Rattle.cj_console.proofs.obeying.answer_line.Goals as goal
@@ -16,7 +17,13 @@ returns-in-Ok-clause-answers g c =
     (subst (λ (names : List (List ℕ)). CommandLine names c.args.line.now c.in-Ok.command) c.names_of.ensures.names c.in-Ok.ensures.ok) c.obey.ensures.answers
 
 pub returns-in-Err-NoCommand-clause-answers : goal.returns-in-Err-NoCommand-clause-answers
-returns-in-Err-NoCommand-clause-answers g c = ?
+returns-in-Err-NoCommand-clause-answers g c =
+    let is : c.read_command-read.result ≡ Err unread.NoCommand = cc in
+    let none = c.read_command-read.ensures.no_command.0 is in
+    (refl, subst (λ (names : List (List ℕ)). IsNoCommand names c.args.line.now) c.names_of.ensures.names none)
 
 pub returns-in-Err-NoBackend-clause-answers : goal.returns-in-Err-NoBackend-clause-answers
-returns-in-Err-NoBackend-clause-answers g c = ?
+returns-in-Err-NoBackend-clause-answers g c =
+    let is : c.read_command-read.result ≡ Err unread.NoBackend = cc in
+    let lacks = c.read_command-read.ensures.no_backend.0 is in
+    (refl, subst (λ (names : List (List ℕ)). NamesNoBackend names c.args.line.now) c.names_of.ensures.names lacks)
