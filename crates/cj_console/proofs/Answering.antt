@@ -1,5 +1,5 @@
 -- What a command is answered, as the answer to its line.
-use Rattle.std.proofs.Common.{◌≡◌, ◌≢◌, ℕ, ◌<◌, Bool, true, List, [], ◌∷◌, length, Some, None, Result, Ok, Err, inl, inr, refl, ap, sym, ◌∙◌, subst, arith}
+use Rattle.std.proofs.Common.{◌≡◌, ◌≢◌, ◌↔◌, ℕ, ◌<◌, Bool, true, List, [], ◌∷◌, length, Some, None, Result, Ok, Err, inl, inr, refl, ap, sym, ◌∙◌, subst, arith}
 use Rattle.std.specs.Str.{bytes_eq}
 use Rattle.std.proofs.lemmas.Bool.{false≢true}
 use Rattle.std.proofs.lemmas.List.Quantifiers.{position-Some}
@@ -15,12 +15,14 @@ use Rattle.cj_dump.specs.declared.dump.Dump.{Dump}
 use Rattle.cj_shelf.specs.Shelves.{GivesFirst, ShelfState}
 use Rattle.cj_replay.specs.Reenabling.{Reenables}
 use Rattle.cj_replay.specs.declared.reenabling.ReplayError.{ReplayError}
-use Rattle.cj_commands.specs.Commands.{CommandLine, NamesNoBackend}
+use Rattle.cj_commands.specs.Commands.{CommandLine, IsNoCommand, NamesNoBackend}
 use Rattle.cj_commands.specs.declared.command.Command.{Command}
 use Rattle.cj_commands.specs.declared.command.Command.TheVariants as commands
+use Rattle.cj_commands.specs.declared.command.Unread.{Unread}
+use Rattle.cj_commands.specs.declared.command.Unread.TheVariants as unread
 use Rattle.cj_console.specs.Answers.{answer_of_done, answer_of_number, answer_of_reenabling, AnswersAsked, AnswersCommand, AnswersLine, BacksUpAndReenables, ReenablesFrom, Served, ShowsAudit, ShowsText, Standing}
 use Rattle.cj_console.specs.Chats.{GetsAnswer, quit_line}
-use Rattle.cj_console.specs.Steps.{CanObey}
+use Rattle.cj_console.specs.Steps.{answer_of_unread, CanObey}
 use Rattle.cj_console.specs.declared.answer.Answer.{Answer}
 use Rattle.cj_console.specs.declared.answer.Answer.TheVariants.{Done, NoBackend, NoCommand}
 
@@ -116,6 +118,12 @@ pub command_answered : {D : Type 0} (s : Served D) (line : List ℕ) (c : Comman
 command_answered {D} s line c a z NoCommand is answers = absurd (of_command s a.view z.view a.shelf z.shelf c NoCommand answers.answers)
 command_answered {D} s line c a z NoBackend is answers = absurd (of_command s a.view z.view a.shelf z.shelf c NoBackend answers.answers)
 command_answered {D} s line c a z answer is answers = (c, is, answers)
+
+-- a line that was not read as a command is answered so
+pub unread_answered : {D : Type 0} (s : Served D) (line : List ℕ) (a : Standing D) (u : Unread)
+    → (◌≡◌ {A = Result Command Unread} (Err u) (Err unread.NoCommand)) ↔ IsNoCommand s.layout.names line → (◌≡◌ {A = Result Command Unread} (Err u) (Err unread.NoBackend)) ↔ NamesNoBackend s.layout.names line → AnswersLine s line a a (answer_of_unread u)
+unread_answered {D} s line a unread.NoCommand none lacks = (refl, none.0 refl)
+unread_answered {D} s line a unread.NoBackend none lacks = (refl, lacks.0 refl)
 
 -- ---- the line that ends a chat
 

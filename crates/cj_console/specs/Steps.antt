@@ -9,6 +9,10 @@ use Rattle.cj_outside.specs.declared.lines.LineError.TheVariants as errors
 use Rattle.cj_outside.specs.Lines.{GivesLine, line_limit, ReaderState}
 use Rattle.cj_commands.specs.declared.command.Command.{Command}
 use Rattle.cj_commands.specs.declared.command.Command.TheVariants as commands
+use Rattle.cj_commands.specs.declared.command.Unread.{Unread}
+use Rattle.cj_commands.specs.declared.command.Unread.TheVariants as unread
+use Rattle.cj_console.specs.declared.answer.Answer.{Answer}
+use Rattle.cj_console.specs.declared.answer.Answer.TheVariants as answers
 use Rattle.cj_console.specs.declared.chat.ConsoleEnd.{ConsoleEnd}
 use Rattle.cj_console.specs.declared.chat.ConsoleEnd.TheVariants.{Quit, Eof, ReadFault, WriteFault, Spent, NoMemory}
 
@@ -41,6 +45,11 @@ CanObey names (commands.Backup b name) = (b < length names) × (name ≢ [])
 CanObey names _ = Unit {0}
 
 -- ---- its answer
+
+-- the answer to a line that is no command
+abbrev pub answer_of_unread : Unread → Answer
+answer_of_unread unread.NoCommand = answers.NoCommand
+answer_of_unread unread.NoBackend = answers.NoBackend
 
 -- a part of the text was written, less than the whole
 abbrev pub WritesInPart : Option (List ℕ) → Option (List ℕ) → List ℕ → Type 0

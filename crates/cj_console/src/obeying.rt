@@ -12,7 +12,7 @@ ghost use Rattle.cj_control.specs.Administration.{ChecksSince, DisablesSince, En
 ghost use Rattle.cj_control.specs.Showing.{ShowsBackends};
 ghost use Rattle.cj_control.specs.declared.administration.AdminError as admin;
 ghost use Rattle.cj_console.specs.Answers.{AnswersCommand, AnswersLine, AreRightDumps, ShowsAudit, ShowsText, answer_of_done, answer_of_number};
-ghost use Rattle.cj_console.specs.Steps.{CanObey};
+ghost use Rattle.cj_console.specs.Steps.{CanObey, answer_of_unread};
 ghost use Rattle.cj_console.specs.declared.answer.Answer.TheVariants as answers;
 
 use crate::answer::Answer;
@@ -181,6 +181,16 @@ fn names_of<J: Naming, B: Backend + Drop, S: Store + Drop>(control: &Control<J, 
     placement.names()
 }
 
+/// Returns the answer to a line that is no command.
+fn refusal_of(unread: Unread) -> Answer
+    ensures { result ≡ answer_of_unread unread }
+{
+    match unread {
+        Unread::NoCommand => Answer::NoCommand,
+        Unread::NoBackend => Answer::NoBackend,
+    }
+}
+
 /// Carries out the command that a line is, and returns its answer. A line that is none changes nothing.
 pub fn answer_line<J: Naming, B: Backend + Drop, S: Store + Drop, D: Store, R: Wait>(
     rt: &R,
@@ -200,7 +210,6 @@ pub fn answer_line<J: Naming, B: Backend + Drop, S: Store + Drop, D: Store, R: W
     let read = read_command(names_of(control), line);
     match read {
         Ok(command) => obey(rt, control, pass, shelf, command),
-        Err(Unread::NoCommand) => Answer::NoCommand,
-        Err(Unread::NoBackend) => Answer::NoBackend,
+        Err(unread) => refusal_of(unread),
     }
 }
