@@ -1,19 +1,15 @@
 -- What each command is answered, from what the console's pass had seen, and the shelf, to what they are then.
-use Rattle.std.specs.Prelude.{◌≡◌, ◌⊎◌, ℕ, ◌<◌, Bool, true, false, List, [], Contains, Result, Ok, Err}
+use Rattle.std.specs.Prelude.{◌≡◌, ℕ, Bool, true, false, List, Contains, Result, Ok, Err}
 use Rattle.std.specs.declared.option.Option.{Option}
 use Rattle.std.specs.declared.option.Option.TheVariants.{None, Some}
-use Rattle.cj_model.specs.Cluster.Placements.{Placement}
 use Rattle.cj_cluster.specs.declared.event.Event.{Event}
 use Rattle.cj_cluster.specs.History.Histories.{is_free}
 use Rattle.cj_outside.specs.Causes.{next}
-use Rattle.cj_outside.specs.Lines.{line_limit}
 use Rattle.cj_place.specs.Layouts.{Layout, placement_of}
 use Rattle.cj_board.specs.declared.view.SeatView.{SeatView}
 use Rattle.cj_dump.specs.declared.dump.Dump.{Dump}
-use Rattle.cj_dump.specs.Dumps.{IsDump}
 use Rattle.cj_shelf.specs.Shelves.{GivesFirst, is_among, SameShelf, ShelfState}
 use Rattle.cj_shelf.specs.declared.error.ShelfError.{ShelfError}
-use Rattle.cj_shelf.specs.declared.error.ShelfError.TheVariants as shelf_errors
 use Rattle.cj_listing.specs.Listing.{listing}
 use Rattle.cj_locked.specs.Listing.{items_between}
 use Rattle.cj_locks.specs.Restoring.{IsRightDump}
@@ -24,7 +20,6 @@ use Rattle.cj_control.specs.declared.administration.AdminError.{AdminError}
 use Rattle.cj_replay.specs.Reenabling.{Reenables}
 use Rattle.cj_replay.specs.declared.reenabling.ReplayError.{ReplayError}
 use Rattle.cj_backup.specs.Backups.{BacksUp}
-use Rattle.cj_backup.specs.declared.backing.BackupError.{BackupError}
 use Rattle.cj_commands.specs.Commands.{CommandLine, IsNoCommand, NamesNoBackend}
 use Rattle.cj_commands.specs.declared.command.Command.{Command}
 use Rattle.cj_commands.specs.declared.command.Command.TheVariants as commands

@@ -126,7 +126,15 @@ fn write_answer<O: Sink>(alloc: Global, answer: &Answer, output: &mut O) -> Resu
 ///
 /// The dumps of the shelf are those of this cluster's log. At every end what was carried out stays. After `NoMemory` and
 /// `WriteFault` the last command may have been carried out with its answer written in part.
-pub fn console<J: Naming, B: Backend + Drop, S: Store + Drop, D: Store, I: Source, O: Sink, R: Wait>(
+pub fn console<
+    J: Naming,
+    B: Backend + Drop,
+    S: Store + Drop,
+    D: Store,
+    I: Source,
+    O: Sink,
+    R: Wait,
+>(
     rt: &R,
     alloc: Global,
     control: &Control<J, B, S>,

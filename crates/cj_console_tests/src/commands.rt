@@ -24,7 +24,10 @@ b1 disabled position=2 asks=0 begun=0 faults=0 login=l1\n";
         ("checkpoint c", "ok 2\n"),
         ("checkpoint c", "refused NameTaken\n"),
         ("show log 1 9", log),
-        ("show log 1 1", "1 session=1 tx=0 user=ann CREATE TABLE t (k INTEGER PRIMARY KEY)\n"),
+        (
+            "show log 1 1",
+            "1 session=1 tx=0 user=ann CREATE TABLE t (k INTEGER PRIMARY KEY)\n",
+        ),
         ("show log 3 9", ""),
         ("show log 2 1", ""),
         ("disable b1", "ok\n"),
@@ -40,9 +43,7 @@ b1 disabled position=2 asks=0 begun=0 faults=0 login=l1\n";
 }
 
 #[test]
-fn a_backup_takes_a_new_name_and_a_backend_that_can_be_spared(
-    rt: HostRuntime,
-) -> Result<(), Fail> {
+fn a_backup_takes_a_new_name_and_a_backend_that_can_be_spared(rt: HostRuntime) -> Result<(), Fail> {
     let alloc = rt.alloc();
     let rows: [Row<'_>; 13] = [
         ("backup b1 d", "ok 2\n"),
@@ -56,8 +57,11 @@ fn a_backup_takes_a_new_name_and_a_backend_that_can_be_spared(
         ("backup b0 e", "refused NotEnabled\n"),
         ("enable b0 e", "refused Dump\n"),
         ("enable b0 d", "ok 2\n"),
-        ("show log 2 3", "2 session=1 tx=0 user=ann INSERT INTO t VALUES (1)\n\
-marker d after 2 backend=b1\nmarker c after 2 backend=-\n"),
+        (
+            "show log 2 3",
+            "2 session=1 tx=0 user=ann INSERT INTO t VALUES (1)\n\
+marker d after 2 backend=b1\nmarker c after 2 backend=-\n",
+        ),
         ("audit", "b0 t base 1\n1\nb1 t base 1\n1\n"),
     ];
     let steps = [Step::Session(&[CREATE, INSERT]), Step::Rows(&rows)];

@@ -30,7 +30,10 @@ b1 out position=- asks=0 begun=0 faults=1 login=l1\n";
         Step::Session(&[INSERT]),
         Step::Rows(&rows),
     ];
-    let faults = Faults { second: 3, ..NO_FAULTS };
+    let faults = Faults {
+        second: 3,
+        ..NO_FAULTS
+    };
     play(&rt, alloc, replicated(&rt, alloc)?, faults, &steps)?;
     Ok(())
 }
@@ -50,7 +53,10 @@ fn a_dump_has_each_table_of_the_backend(rt: HostRuntime) -> Result<(), Fail> {
         Step::Session(&[INSERT]),
         Step::Rows(&rows),
     ];
-    let faults = Faults { second: 3, ..NO_FAULTS };
+    let faults = Faults {
+        second: 3,
+        ..NO_FAULTS
+    };
     play(&rt, alloc, partial(&rt, alloc)?, faults, &steps)?;
     Ok(())
 }
@@ -70,7 +76,10 @@ fn a_backend_that_fails_on_its_way_back_is_out(rt: HostRuntime) -> Result<(), Fa
         Step::Session(&[INSERT]),
         Step::Rows(&rows),
     ];
-    let faults = Faults { second: 2, ..NO_FAULTS };
+    let faults = Faults {
+        second: 2,
+        ..NO_FAULTS
+    };
     play(&rt, alloc, replicated(&rt, alloc)?, faults, &steps)?;
     Ok(())
 }
@@ -84,8 +93,17 @@ fn a_backend_that_fails_when_it_is_dumped_stays_disabled(rt: HostRuntime) -> Res
         ("enable b1", "ok 0\n"),
         ("enable b1 d", "refused Dump\n"),
     ];
-    let faults = Faults { second: 1, ..NO_FAULTS };
-    play(&rt, alloc, replicated(&rt, alloc)?, faults, &[Step::Rows(&rows)])?;
+    let faults = Faults {
+        second: 1,
+        ..NO_FAULTS
+    };
+    play(
+        &rt,
+        alloc,
+        replicated(&rt, alloc)?,
+        faults,
+        &[Step::Rows(&rows)],
+    )?;
     Ok(())
 }
 
@@ -93,8 +111,17 @@ fn a_backend_that_fails_when_it_is_dumped_stays_disabled(rt: HostRuntime) -> Res
 fn an_audit_names_the_number_of_a_backend_that_fails(rt: HostRuntime) -> Result<(), Fail> {
     let alloc = rt.alloc();
     let rows: [Row<'_>; 2] = [("audit", "refused Fault 1\n"), ("audit", "")];
-    let faults = Faults { second: 1, ..NO_FAULTS };
-    play(&rt, alloc, replicated(&rt, alloc)?, faults, &[Step::Rows(&rows)])?;
+    let faults = Faults {
+        second: 1,
+        ..NO_FAULTS
+    };
+    play(
+        &rt,
+        alloc,
+        replicated(&rt, alloc)?,
+        faults,
+        &[Step::Rows(&rows)],
+    )?;
     Ok(())
 }
 
@@ -109,8 +136,17 @@ fn a_dump_that_is_not_stored_keeps_its_name_in_the_log(rt: HostRuntime) -> Resul
         ("backup b1 d", "refused NameTaken\n"),
         ("backup b1 e", "ok 0\n"),
     ];
-    let faults = Faults { shelf: 4, ..NO_FAULTS };
-    play(&rt, alloc, replicated(&rt, alloc)?, faults, &[Step::Rows(&rows)])?;
+    let faults = Faults {
+        shelf: 4,
+        ..NO_FAULTS
+    };
+    play(
+        &rt,
+        alloc,
+        replicated(&rt, alloc)?,
+        faults,
+        &[Step::Rows(&rows)],
+    )?;
     Ok(())
 }
 
@@ -118,18 +154,33 @@ fn a_dump_that_is_not_stored_keeps_its_name_in_the_log(rt: HostRuntime) -> Resul
 #[test]
 fn no_marker_is_set_while_the_log_fails(rt: HostRuntime) -> Result<(), Fail> {
     let alloc = rt.alloc();
-    let faults = Faults { log: 4, ..NO_FAULTS };
+    let faults = Faults {
+        log: 4,
+        ..NO_FAULTS
+    };
     let backups: [Row<'_>; 3] = [
         ("backup b1 d", "refused LogFault\n"),
         ("backup b1 d", "ok 0\n"),
         ("show log 0 1", "marker d after 0 backend=b1\n"),
     ];
-    play(&rt, alloc, replicated(&rt, alloc)?, faults, &[Step::Rows(&backups)])?;
+    play(
+        &rt,
+        alloc,
+        replicated(&rt, alloc)?,
+        faults,
+        &[Step::Rows(&backups)],
+    )?;
     let checkpoints: [Row<'_>; 3] = [
         ("checkpoint c", "refused LogFault\n"),
         ("checkpoint c", "ok 0\n"),
         ("show log 0 1", "marker c after 0 backend=-\n"),
     ];
-    play(&rt, alloc, replicated(&rt, alloc)?, faults, &[Step::Rows(&checkpoints)])?;
+    play(
+        &rt,
+        alloc,
+        replicated(&rt, alloc)?,
+        faults,
+        &[Step::Rows(&checkpoints)],
+    )?;
     Ok(())
 }

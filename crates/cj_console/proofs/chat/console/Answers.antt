@@ -1,6 +1,6 @@
-use Rattle.std.proofs.Common.{◌+◌, ap, ◌∙◌, refl, sym, subst, length, arith}
+use Rattle.std.proofs.Common.{ap, ◌∙◌, refl, sym, subst, arith}
 use Rattle.std.proofs.lemmas.Bool.{false≢true}
-use Rattle.cj_board.specs.Seats.{front, pass_view}
+use Rattle.cj_board.specs.Seats.{pass_view}
 use Rattle.cj_pass.proofs.Passes.{seen_same, seen_then}
 use Rattle.cj_console.specs.Chats.{GetsAnswer}
 use Rattle.cj_console.proofs.Answering.{quit_done}
