@@ -6,7 +6,8 @@
 //! answers (`Chats`). Each answer has its cause in what the pass has seen then (`AnswersCommand`).
 //! Not promised: the counts that `show cache` gives.
 //! To change: which call a command makes is in `obeying.rt`, what is written for an answer in `texts.rt`.
-//! To read: `specs/Answers`, `specs/Chats`, `specs/Texts`. Proofs begin in `proofs/Chatting`.
+//! To read: `specs/Answers`, `specs/Chats`, `specs/Texts`; `specs/Steps` has what only proofs need. Proofs begin in
+//! `proofs/Chatting` (the loop) and `proofs/Answering` (a command).
 #![tactic(auto)]
 
 mod answer;

@@ -37,22 +37,31 @@ const SECRET: &[u8] = b"2bb80d537b1da3e38bd30361aa855686bde0eacd7162fef6a25fe97b
 /// A backend of the tests.
 pub type TestBackend = Flaky<MemBackend>;
 
-/// Which call of each object fails, counted from 1. None does if that is 0.
+/// Which call of an object fails, counted from 1. None does if that is 0.
 #[derive(Clone, Copy)]
 pub struct Faults {
-    pub first: u64,
-    pub second: u64,
+    /// The call of the second backend.
+    pub backend: u64,
+    /// The call of the log's store.
     pub log: u64,
+    /// The call of the shelf's store.
     pub shelf: u64,
 }
 
 /// No call fails.
 pub const NO_FAULTS: Faults = Faults {
-    first: 0,
-    second: 0,
+    backend: 0,
     log: 0,
     shelf: 0,
 };
+
+/// This call of the second backend fails.
+pub fn backend_fails(call: u64) -> Faults {
+    Faults {
+        backend: call,
+        ..NO_FAULTS
+    }
+}
 
 /// The text of these bytes.
 fn text(rt: &impl Abort, alloc: Global, bytes: &[u8]) -> Result<Text, NoMemory> {
@@ -183,8 +192,8 @@ fn started(
     ensures emptied { IfOk result (λ shared. (length shared.emptied.items ≡ 0) × (BACKEND_LIMIT ≤ vec_capacity shared.emptied)) }
 {
     let mut backends = Backends::new(alloc);
-    backends.push(backend(alloc, faults.first)?)?;
-    backends.push(backend(alloc, faults.second)?)?;
+    backends.push(backend(alloc, 0)?)?;
+    backends.push(backend(alloc, faults.backend)?)?;
     let log = store(alloc, faults.log)?;
     match World::start(alloc, parts(rt, alloc, placement)?, log, backends) {
         Ok(world) => Ok(world.into_shared()),

@@ -1,6 +1,6 @@
 //! What is answered where a backend, the log or the shelf fails.
 
-use crate::clusters::{Faults, NO_FAULTS, partial, play, replicated};
+use crate::clusters::{Faults, NO_FAULTS, backend_fails, partial, play, replicated};
 use crate::steps::{Row, Step};
 use std::test::Fail;
 
@@ -30,10 +30,7 @@ b1 out position=- asks=0 begun=0 faults=1 login=l1\n";
         Step::Session(&[INSERT]),
         Step::Rows(&rows),
     ];
-    let faults = Faults {
-        second: 3,
-        ..NO_FAULTS
-    };
+    let faults = backend_fails(3);
     play(&rt, alloc, replicated(&rt, alloc)?, faults, &steps)?;
     Ok(())
 }
@@ -53,10 +50,7 @@ fn a_dump_has_each_table_of_the_backend(rt: HostRuntime) -> Result<(), Fail> {
         Step::Session(&[INSERT]),
         Step::Rows(&rows),
     ];
-    let faults = Faults {
-        second: 3,
-        ..NO_FAULTS
-    };
+    let faults = backend_fails(3);
     play(&rt, alloc, partial(&rt, alloc)?, faults, &steps)?;
     Ok(())
 }
@@ -76,10 +70,7 @@ fn a_backend_that_fails_on_its_way_back_is_out(rt: HostRuntime) -> Result<(), Fa
         Step::Session(&[INSERT]),
         Step::Rows(&rows),
     ];
-    let faults = Faults {
-        second: 2,
-        ..NO_FAULTS
-    };
+    let faults = backend_fails(2);
     play(&rt, alloc, replicated(&rt, alloc)?, faults, &steps)?;
     Ok(())
 }
@@ -93,17 +84,9 @@ fn a_backend_that_fails_when_it_is_dumped_stays_disabled(rt: HostRuntime) -> Res
         ("enable b1", "ok 0\n"),
         ("enable b1 d", "refused Dump\n"),
     ];
-    let faults = Faults {
-        second: 1,
-        ..NO_FAULTS
-    };
-    play(
-        &rt,
-        alloc,
-        replicated(&rt, alloc)?,
-        faults,
-        &[Step::Rows(&rows)],
-    )?;
+    let faults = backend_fails(1);
+    let placement = replicated(&rt, alloc)?;
+    play(&rt, alloc, placement, faults, &[Step::Rows(&rows)])?;
     Ok(())
 }
 
@@ -111,17 +94,9 @@ fn a_backend_that_fails_when_it_is_dumped_stays_disabled(rt: HostRuntime) -> Res
 fn an_audit_names_the_number_of_a_backend_that_fails(rt: HostRuntime) -> Result<(), Fail> {
     let alloc = rt.alloc();
     let rows: [Row<'_>; 2] = [("audit", "refused Fault 1\n"), ("audit", "")];
-    let faults = Faults {
-        second: 1,
-        ..NO_FAULTS
-    };
-    play(
-        &rt,
-        alloc,
-        replicated(&rt, alloc)?,
-        faults,
-        &[Step::Rows(&rows)],
-    )?;
+    let faults = backend_fails(1);
+    let placement = replicated(&rt, alloc)?;
+    play(&rt, alloc, placement, faults, &[Step::Rows(&rows)])?;
     Ok(())
 }
 
@@ -140,13 +115,27 @@ fn a_dump_that_is_not_stored_keeps_its_name_in_the_log(rt: HostRuntime) -> Resul
         shelf: 4,
         ..NO_FAULTS
     };
-    play(
-        &rt,
-        alloc,
-        replicated(&rt, alloc)?,
-        faults,
-        &[Step::Rows(&rows)],
-    )?;
+    let placement = replicated(&rt, alloc)?;
+    play(&rt, alloc, placement, faults, &[Step::Rows(&rows)])?;
+    Ok(())
+}
+
+/// Adding a dump takes four calls more.
+#[test]
+fn a_dump_that_is_not_read_leaves_the_backend(rt: HostRuntime) -> Result<(), Fail> {
+    let alloc = rt.alloc();
+    let rows: [Row<'_>; 4] = [
+        ("backup b1 d", "ok 0\n"),
+        ("disable b1", "ok\n"),
+        ("enable b1 d", "refused StoreFault\n"),
+        ("enable b1 d", "ok 0\n"),
+    ];
+    let faults = Faults {
+        shelf: 8,
+        ..NO_FAULTS
+    };
+    let placement = replicated(&rt, alloc)?;
+    play(&rt, alloc, placement, faults, &[Step::Rows(&rows)])?;
     Ok(())
 }
 
@@ -163,24 +152,14 @@ fn no_marker_is_set_while_the_log_fails(rt: HostRuntime) -> Result<(), Fail> {
         ("backup b1 d", "ok 0\n"),
         ("show log 0 1", "marker d after 0 backend=b1\n"),
     ];
-    play(
-        &rt,
-        alloc,
-        replicated(&rt, alloc)?,
-        faults,
-        &[Step::Rows(&backups)],
-    )?;
+    let placement = replicated(&rt, alloc)?;
+    play(&rt, alloc, placement, faults, &[Step::Rows(&backups)])?;
     let checkpoints: [Row<'_>; 3] = [
         ("checkpoint c", "refused LogFault\n"),
         ("checkpoint c", "ok 0\n"),
         ("show log 0 1", "marker c after 0 backend=-\n"),
     ];
-    play(
-        &rt,
-        alloc,
-        replicated(&rt, alloc)?,
-        faults,
-        &[Step::Rows(&checkpoints)],
-    )?;
+    let placement = replicated(&rt, alloc)?;
+    play(&rt, alloc, placement, faults, &[Step::Rows(&checkpoints)])?;
     Ok(())
 }
