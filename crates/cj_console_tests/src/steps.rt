@@ -58,7 +58,7 @@ fn hold_session<J: Naming, B: Backend, R: Wait + Abort>(
 }
 
 /// Has a console take its input, and compares what it writes.
-fn chat<J: Naming, B: Backend + Drop, R: Wait + Abort>(
+fn hold_chat<J: Naming, B: Backend + Drop, R: Wait + Abort>(
     rt: &R,
     alloc: Global,
     control: &Control<J, B, MemStore>,
@@ -109,7 +109,7 @@ fn type_rows<J: Naming, B: Backend + Drop, R: Wait + Abort>(
         write_fails: 0,
         end: ConsoleEnd::Eof,
     };
-    chat(rt, alloc, control, pass, shelf, &typed)
+    hold_chat(rt, alloc, control, pass, shelf, &typed)
 }
 
 /// Takes the steps, each after the one before, over an empty shelf. Sessions have a pass of their own.
@@ -129,7 +129,7 @@ pub fn take_all<J: Naming, B: Backend + Drop, R: Wait + Abort>(
         match step {
             Step::Session(texts) => hold_session(rt, alloc, control, &mut other, texts)?,
             Step::Rows(rows) => type_rows(rt, alloc, control, pass, shelf, rows)?,
-            Step::Chat(typed) => chat(rt, alloc, control, pass, shelf, typed)?,
+            Step::Chat(typed) => hold_chat(rt, alloc, control, pass, shelf, typed)?,
         }
     }
     Ok(())
