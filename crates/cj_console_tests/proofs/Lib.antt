@@ -1,1 +1,1 @@
-mod Requests
+mod PlainStatements

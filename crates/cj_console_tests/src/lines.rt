@@ -3,6 +3,8 @@
 use crate::clusters::{NO_FAULTS, play, replicated};
 use crate::steps::{Chat, Row, Step};
 use cj_console::ConsoleEnd;
+use cj_model::NoMemory;
+use std::alloc::Global;
 use std::test::Fail;
 
 /// A console over streams that don't fail, and that takes its whole input.
@@ -13,6 +15,15 @@ const ALL_TAKEN: Chat<'static> = Chat {
     write_fails: 0,
     end: ConsoleEnd::Eof,
 };
+
+/// So many letters.
+fn letters(alloc: Global, count: u64) -> Result<Vec<u8>, NoMemory> {
+    let mut letters = Vec::new(alloc);
+    for _ in 0..count {
+        letters.push(b'a')?;
+    }
+    Ok(letters)
+}
 
 #[test]
 fn a_line_that_is_no_command_changes_nothing(rt: HostRuntime) -> Result<(), Fail> {
@@ -56,13 +67,9 @@ fn a_line_that_is_no_command_changes_nothing(rt: HostRuntime) -> Result<(), Fail
 #[test]
 fn bytes_that_are_no_text_and_long_lines_are_no_commands(rt: HostRuntime) -> Result<(), Fail> {
     let alloc = rt.alloc();
-    let mut long = Vec::new(alloc);
-    for _ in 0..65_537 {
-        long.push(b'a')?;
-    }
-    let mut both = Vec::from_slice(alloc, &long)?;
+    let mut both = letters(alloc, 65_537)?;
     both.extend_from_slice(b"\nshow cache\n")?;
-    both.extend_from_slice(&long[..65_536])?;
+    both.extend_from_slice(&letters(alloc, 65_536)?)?;
     let steps = [
         Step::Chat(Chat {
             input: b"\xff\xfe\naud\x00it\n",

@@ -44,7 +44,7 @@ fn number_of(rt: &impl Abort, written: Written) -> u64
 }
 
 /// Has the session make a request, in transaction `tx` if it has that. Returns the transaction that it has then.
-#[tactic(auto, using(crate::proofs::Requests::tx_when_done))]
+#[tactic(auto, using(crate::proofs::PlainStatements::tx_when_done))]
 fn request<R: Abort, K: Desk<R>>(
     rt: &R,
     alloc: Global,
