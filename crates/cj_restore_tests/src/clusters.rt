@@ -13,7 +13,7 @@ use cj_backend::Backend;
 use cj_balance::Balancer;
 use cj_book::BookParts;
 use cj_cache::Cache;
-use cj_control::{Control, Naming};
+use cj_control::{Control, Naming, Pass};
 use cj_core::{Backends, Parts, Shared, World};
 use cj_model::{BACKEND_LIMIT, Level, ListOf, Name, NoMemory, PlaceRow, PlaceRows, Policy};
 use cj_outside::MemStore;
@@ -133,7 +133,23 @@ fn shelf(rt: &impl Abort, alloc: Global, fails: Vec<u64>) -> Shelf<MemStore>
     }
 }
 
-/// Takes the steps at the cluster of these parts, and an empty shelf.
+/// Takes the steps at a cluster, with a new session and an empty shelf whose store fails at these calls.
+fn serve<J: Naming + Send + Sync, B: Backend + Drop + Send, R: Threads + Wait + Abort + Sync>(
+    rt: &R,
+    alloc: Global,
+    control: &Control<J, B, MemStore>,
+    pass: &mut Pass<J>,
+    shelf_fails: Vec<u64>,
+    steps: &[Step<'_>],
+) -> Result<(), NoMemory> {
+    let Ok(mut caller) = control.caller(rt, pass) else {
+        panic!(rt; "no session")
+    };
+    let mut shelf = shelf(rt, alloc, shelf_fails);
+    take_all(rt, alloc, control, pass, &mut caller, &mut shelf, steps)
+}
+
+/// Takes the steps at the cluster of these parts.
 fn play_at<J: Naming + Send + Sync, B: Backend + Drop + Send, R: Threads + Wait + Abort + Sync>(
     rt: &R,
     alloc: Global,
@@ -152,19 +168,7 @@ fn play_at<J: Naming + Send + Sync, B: Backend + Drop + Send, R: Threads + Wait 
     let Ok((control, mut pass)) = Control::<J, B, MemStore>::start(alloc, shared, blank) else {
         return Err(NoMemory);
     };
-    let Ok(mut caller) = control.caller(rt, &mut pass) else {
-        panic!(rt; "no session")
-    };
-    let mut shelf = shelf(rt, alloc, shelf_fails);
-    take_all(
-        rt,
-        alloc,
-        &control,
-        &mut pass,
-        &mut caller,
-        &mut shelf,
-        steps,
-    )
+    serve(rt, alloc, &control, &mut pass, shelf_fails, steps)
 }
 
 /// Takes the steps at a new cluster over these backends, and an empty shelf whose store fails at these calls.

@@ -53,8 +53,8 @@ pub fn request<R: Abort, K: Desk<R>>(
     text: &str,
 ) -> Result<u64, NoMemory>
     requires room { (K.state_of desk.old).requests < REQUEST_LIMIT }
-    requires open { tx ≡ desk_tx (K.state_of desk.old) }
-    ensures open { IfOk result (λ later. later ≡ desk_tx (K.state_of desk.new)) }
+    requires transaction { tx ≡ desk_tx (K.state_of desk.old) }
+    ensures transaction { IfOk result (λ later. later ≡ desk_tx (K.state_of desk.new)) }
     ensures counted { OnOk result ((K.state_of desk.new).requests ≡ (K.state_of desk.old).requests + 1) }
 {
     let user = ann(rt, alloc)?;

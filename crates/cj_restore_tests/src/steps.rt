@@ -1,6 +1,6 @@
 //! The steps of the tests: what one session asks for, and what an administrator does, each with what it is to give.
 
-ghost use Rattle.std.specs.Prelude.{◌≡◌, ◌≢◌, ◌+◌, ◌<◌, ◌≤◌, [], All, IfOk, OnOk};
+ghost use Rattle.std.specs.Prelude.{◌≡◌, ◌≢◌, ◌+◌, ◌<◌, ◌≤◌, [], length, All, IfOk, OnOk};
 ghost use mathlib.Core.List.{IsPrefix};
 ghost use Rattle.cj_model.specs.declared.limits.TheConstants.{REQUEST_LIMIT};
 ghost use Rattle.cj_board.specs.Seats.{front};
@@ -72,6 +72,17 @@ fn name(rt: &impl Abort, text: &str) -> Name
     name
 }
 
+/// Checks that the cluster has this backend.
+fn check_backend<J: Naming, B: Backend + Drop>(
+    rt: &impl Abort,
+    control: &Control<J, B, MemStore>,
+    b: u8,
+)
+    ensures { b < length J.layout.names }
+{
+    assert!(rt; b < control.placement().count());
+}
+
 /// Disables a backend, which is enabled.
 fn disable<J: Naming, B: Backend + Drop, R: Wait + Abort>(
     rt: &R,
@@ -81,7 +92,7 @@ fn disable<J: Naming, B: Backend + Drop, R: Wait + Abort>(
 )
     ensures { IsPrefix (front pass.old.seat) (front pass.new.seat) }
 {
-    assert!(rt; b < control.placement().count());
+    check_backend(rt, control, b);
     assert!(rt; control.disable(rt, pass, b) == Ok(()));
 }
 
@@ -125,7 +136,7 @@ fn back_up<J: Naming, B: Backend + Drop, R: Wait + Abort>(
     requires right { All (IsRightDump B.tells (front pass.old.seat)) shelf.old.dumps }
     ensures right { All (IsRightDump B.tells (front pass.new.seat)) shelf.new.dumps }
 {
-    assert!(rt; b < control.placement().count());
+    check_backend(rt, control, b);
     let name = name(rt, text);
     backup(rt, control, pass, b, &name, shelf)
 }
@@ -139,7 +150,7 @@ fn come_back<J: Naming, B: Backend + Drop, R: Wait + Abort>(
 ) -> Result<u64, ReplayError>
     ensures { IsPrefix (front pass.old.seat) (front pass.new.seat) }
 {
-    assert!(rt; b < control.placement().count());
+    check_backend(rt, control, b);
     reenable(rt, control, pass, b, None)
 }
 
@@ -155,7 +166,7 @@ fn come_back_by<J: Naming, B: Backend + Drop, R: Wait + Abort>(
     requires right { All (IsRightDump B.tells (front pass.old.seat)) shelf.old.dumps }
     ensures right { All (IsRightDump B.tells (front pass.new.seat)) shelf.new.dumps }
 {
-    assert!(rt; b < control.placement().count());
+    check_backend(rt, control, b);
     let found = shelf.find(&name(rt, text));
     let Ok(Some(dump)) = found else {
         panic!(rt; "no dump")
@@ -274,9 +285,9 @@ fn take<
 ) -> Result<u64, NoMemory>
     requires right { All (IsRightDump B.tells (front pass.old.seat)) shelf.old.dumps }
     requires room { (K.state_of desk.old).requests < REQUEST_LIMIT }
-    requires open { tx ≡ desk_tx (K.state_of desk.old) }
+    requires transaction { tx ≡ desk_tx (K.state_of desk.old) }
     ensures right { All (IsRightDump B.tells (front pass.new.seat)) shelf.new.dumps }
-    ensures open { IfOk result (λ later. later ≡ desk_tx (K.state_of desk.new)) }
+    ensures transaction { IfOk result (λ later. later ≡ desk_tx (K.state_of desk.new)) }
     ensures counted { OnOk result ((K.state_of desk.new).requests ≤ (K.state_of desk.old).requests + 1) }
 {
     if let Step::Ask(text) = step {
