@@ -11,11 +11,13 @@ use Rattle.cj_cluster.specs.Moves.Runs.{RunsMoves, IsBetweenReplies, IsChained, 
 use Rattle.cj_cluster.specs.Script.Lines.{MoveLine, NamesBackend, moved_lines}
 use Rattle.cj_cluster.proofs.Chains.{run_chained}
 use Rattle.cj_script.specs.declared.play.ScriptEnd.TheVariants.{Done, Line as Line', ReadFault, WriteFault, Spent, NoMemory}
-use Rattle.cj_script.specs.Script.{audit_line, filled, moves_in, given_in, step_lines, faults_through, log_faults_through, AreSteps, MakesInPart, PlaysLine, Plays, LieIn, InTurns, Step}
+use Rattle.cj_script.specs.Script.{audit_line, filled, moves_in, given_in, step_lines, faults_through, log_faults_through, AreSteps, MakesInPart, PlaysLine, Plays, InTurns, Step}
+use Rattle.cj_words.specs.LinesInBytes.{LieIn}
+use Rattle.cj_words.proofs.LinesInBytes.{longer}
 use Rattle.cj_script.specs.Script.Step.{Moves, Audits}
 use Rattle.cj_script.specs.Steps.{ReadsLine, Starves, DoesNothing, PlaysOrEnds}
 use Rattle.cj_script.proofs.Filled.{filled_audit, filled_empty, filled_move, filled_more}
-use Rattle.cj_script.proofs.Playing.{plays_more, longer, Playing, AtLine}
+use Rattle.cj_script.proofs.Playing.{plays_more, Playing, AtLine}
 
 -- ---- lines as steps
 

@@ -5,7 +5,7 @@ use Rattle.cj_cluster.proofs.Growth.{moves_grow, can_count}
 use Rattle.cj_core.specs.Played.{given_of}
 use Rattle.cj_script.specs.Script.{PlaysLine, MakesMove}
 use Rattle.cj_script.proofs.Filled.{move_line_long}
-use Rattle.cj_script.proofs.Playing.{Advances}
+use Rattle.cj_words.proofs.LinesInBytes.{Advances}
 
 -- ---- a line that was played
 

@@ -1,17 +1,18 @@
 -- How a script comes from line to line.
-use Rattle.std.proofs.Common.{◌≡◌, ◌≢◌, ◌⊎◌, ℕ, ◌+◌, ◌*◌, ◌<◌, ◌≤◌, Bool, List, [], ◌∷◌, ◌++◌, length, Option, Some, None, Ok, Err, inl, inr, refl, sym, ap, subst, ◌∙◌, arith, append_assoc, append-nil, length-append}
+use Rattle.std.proofs.Common.{◌≡◌, ◌⊎◌, ℕ, ◌+◌, ◌*◌, ◌≤◌, Bool, List, [], ◌∷◌, ◌++◌, length, Option, Ok, Err, inl, inr, refl, sym, ap, subst, ◌∙◌, arith, append_assoc, append-nil, length-append}
 use Rattle.std.specs.Prelude.{IsSome}
-use Rattle.std.proofs.lemmas.List.Concat.{flat_map-append, flat_map-cons}
 use Rattle.std.proofs.lemmas.List.Elements.{All-push, All-nil}
 use Rattle.std.specs.Global.{Vec}
-use Rattle.std.specs.Io.KnownBytes.{Consumes, Appends, IsAtEnd}
-use Rattle.cj_script.proofs.Common.{flat_map, PlaysOrEnds, PlaysWritten, ReadsLine, ScriptEnd, DoesNothing, with_line_feed, WorldState}
+use Rattle.std.specs.Io.KnownBytes.{Consumes, Appends}
+use Rattle.cj_script.proofs.Common.{PlaysOrEnds, PlaysWritten, ReadsLine, ScriptEnd, DoesNothing, WorldState}
 use Rattle.cj_outside.specs.declared.lines.Line.{Line}
 use Rattle.cj_outside.specs.Lines.{line_limit, ReaderState, IsInLine, IsLine, EndsLine, LastLine, TookBytes}
-use Rattle.cj_outside.proofs.Joined.{consumes_then, consumes_none, appends_then, appends_none}
+use Rattle.cj_outside.proofs.Joined.{consumes_none, appends_then, appends_none}
 use Rattle.cj_outside.specs.declared.lines.Line.TheVariants.{Text, Long}
 use Rattle.cj_script.specs.declared.play.ScriptEnd.TheVariants.{Done, Line as Line', ReadFault, WriteFault, Spent, NoMemory}
-use Rattle.cj_script.specs.Script.{filled, IsShortLine, PlaysLine, Plays, LieIn, IsNextLine, Played, PlayedInPart, MakesInPart, CameTo}
+use Rattle.cj_words.specs.LinesInBytes.{IsNextLine, IsShortLine, LieIn}
+use Rattle.cj_words.proofs.LinesInBytes.{Advances, longer, takes_off}
+use Rattle.cj_script.specs.Script.{filled, PlaysLine, Plays, Played, PlayedInPart, MakesInPart, CameTo}
 use Rattle.cj_script.proofs.Filled.{filled_more}
 
 -- ---- lines that play
@@ -23,24 +24,6 @@ plays_more tells armable names c [] written mid line more z before next =
     (z, more, [], subst (λ (x : WorldState). PlaysLine tells armable names x line more z) before.1 next, (refl, refl), ap (λ (t : List ℕ). t ++ more) before.0 ∙ sym (append-nil more))
 plays_more tells armable names c (l ∷ lines) written mid line more z (d, front, rest, first, others, is) next =
     (d, front, rest ++ more, first, plays_more tells armable names d lines rest mid line more z others next, ap (λ (t : List ℕ). t ++ more) is ∙ append_assoc front rest more)
-
--- ---- lines in bytes
-
--- the bytes of the lines, and of one more
-bytes_more : (lines : List (List ℕ)) (line : List ℕ) → flat_map with_line_feed (lines ++ line ∷ []) ≡ flat_map with_line_feed lines ++ with_line_feed line
-bytes_more lines line = flat_map-append with_line_feed lines (line ∷ []) ∙ ap (λ (t : List ℕ). flat_map with_line_feed lines ++ t) (flat_map-cons with_line_feed line [] ∙ append-nil (with_line_feed line))
-
--- a line with its LF is taken off the rest
-line_more : (left : Option (List ℕ)) (taken : List ℕ) (lines : List (List ℕ)) (rest line more : List ℕ) → LieIn left taken lines rest → rest ≡ line ++ 10 ∷ more → LieIn left taken (lines ++ line ∷ []) more
-line_more left taken lines rest line more (inl is) parts =
-    inl (is ∙ ap (λ (t : List ℕ). flat_map with_line_feed lines ++ t) (parts ∙ sym (append_assoc line (10 ∷ []) more)) ∙ sym (append_assoc (flat_map with_line_feed lines) (with_line_feed line) more) ∙ ap (λ (t : List ℕ). t ++ more) (sym (bytes_more lines line)))
-line_more left taken lines rest line more (inr h) parts = absurd (omega (arith, ap length (sym h.1 ∙ parts), length-append line (10 ∷ more)))
-
--- the rest is a last line without LF
-last_more : (left : Option (List ℕ)) (taken : List ℕ) (lines : List (List ℕ)) (line : List ℕ) → LieIn left taken lines line → line ≢ [] → IsAtEnd left → LieIn left taken (lines ++ line ∷ []) []
-last_more left taken lines line (inl is) some end =
-    inr (ap (λ (t : List ℕ). t ++ 10 ∷ []) is ∙ append_assoc (flat_map with_line_feed lines) line (10 ∷ []) ∙ sym (bytes_more lines line), refl, end)
-last_more left taken lines line (inr h) some end = absurd (some h.1)
 
 -- ---- between two lines
 
@@ -70,32 +53,6 @@ playing_none tells armable names left held c rest bytes none zero = record {
   number = refl;
   told = λ _. sym zero;
   few = omega (arith, zero, ap length none);
-}
-
--- how lines lie in the bytes where more is taken
-pub record Longer (left left' : Option (List ℕ)) (taken : List ℕ) (lines : List (List ℕ)) (rest more : List ℕ) : Type 0 where
-  pub whole : List ℕ
-  pub consumed : Consumes left left' whole
-  pub lie : LieIn left' whole lines (rest ++ more)
-  pub told : IsSome left → length whole ≡ length taken + length more
-
--- behind a last line without LF nothing comes, where the source tells
-pub longer : (left mid left' : Option (List ℕ)) (taken : List ℕ) (lines : List (List ℕ)) (rest more : List ℕ) → Consumes left mid taken → LieIn mid taken lines rest → Consumes mid left' more → Longer left left' taken lines rest more
-longer None mid left' taken lines rest more before lie next = record { whole = flat_map with_line_feed lines ++ (rest ++ more); consumed = tt; lie = inl refl; told = λ none. absurd (cc none) }
-longer (Some xs) None left' taken lines rest more before lie next = absurd before
-longer (Some xs) (Some ys) None taken lines rest more before lie next = absurd next
-longer (Some xs) (Some ys) (Some zs) taken lines rest more before (inl is) next = record {
-  whole = taken ++ more;
-  consumed = consumes_then (Some xs) (Some ys) (Some zs) taken more before next;
-  lie = inl (ap (λ (t : List ℕ). t ++ more) is ∙ append_assoc (flat_map with_line_feed lines) rest more);
-  told = λ _. length-append taken more;
-}
-longer (Some xs) (Some ys) (Some zs) taken lines rest (m ∷ more) before (inr h) next = absurd (omega (arith, ap length (sym h.2 ∙ next)))
-longer (Some xs) (Some ys) (Some zs) taken lines rest [] before (inr h) next = record {
-  whole = taken;
-  consumed = before ∙ ap (λ (t : List ℕ). taken ++ t) next;
-  lie = inr (h.0, append-nil rest ∙ h.1, sym next ∙ h.2);
-  told = λ _. omega arith;
 }
 
 -- more was taken, and the rest is longer by it
@@ -128,11 +85,6 @@ playing_taken tells armable names left mid left' held held' c old new count z by
 
 -- ---- a line
 
--- a list that is not empty has some items
-not_empty : (xs : List ℕ) → xs ≢ [] → 0 < length xs
-not_empty [] some = absurd (some refl)
-not_empty (x ∷ xs) some = omega arith
-
 -- The next line was read, as which `line` stands at the rest's front, and the reader holds the rest behind it.
 pub record AtLine (tells armable : Bool) (names : List (List ℕ)) (left left' held held' : Option (List ℕ)) (c : WorldState) (line rest : List ℕ) (bytes count : ℕ) (z : WorldState) : Type 0 where
   pub whole : List ℕ
@@ -141,11 +93,6 @@ pub record AtLine (tells armable : Bool) (names : List (List ℕ)) (left left' h
   pub next : IsNextLine left' line whole
   pub behind : LieIn left' playing.taken (playing.lines ++ line ∷ []) rest
   pub shorter : length line + length rest ≤ length whole
-
--- the reader has come behind a line
-pub record Advances (old new : ReaderState) (line : List ℕ) : Type 0 where
-  pub by : length line + length new.rest + old.taken ≤ length old.rest + new.taken
-  pub some : length new.rest + old.taken < length old.rest + new.taken
 
 -- a line came, whole or too long
 pub record LineCame (tells armable : Bool) (names : List (List ℕ)) (left left' held held' : Option (List ℕ)) (c : WorldState) (old new : ReaderState) (count : ℕ) (z : WorldState) (line : Line) : Type 0 where
@@ -157,41 +104,20 @@ pub record LineCame (tells armable : Bool) (names : List (List ℕ)) (left left'
 pub line_came : (tells armable : Bool) (names : List (List ℕ)) (left mid left' held held' : Option (List ℕ)) (c : WorldState) (old new : ReaderState) (count : ℕ) (z : WorldState) (bytes : List ℕ) (line : Line)
     → Playing tells armable names left mid held held' c old.rest old.taken count z → TookBytes mid left' old new bytes → EndsLine old new bytes line ⊎ LastLine left' old new bytes line
     → LineCame tells armable names left left' held held' c old new count z line
-line_came tells armable names left mid left' held held' c old new count z bytes line p took (inl h) =
+line_came tells armable names left mid left' held held' c old new count z bytes line p took came =
     let now = playing_taken tells armable names left mid left' held held' c old new count z bytes p took in
+    let off = takes_off left' now.taken now.lines old new bytes line now.played.lie took.count came in
     record {
-      text = h.text;
-      is = h.is;
-      advances = record {
-        by = omega (arith, took.count, ap length h.parts, length-append old.rest bytes, length-append h.text (10 ∷ new.rest));
-        some = omega (arith, took.count, ap length h.parts, length-append old.rest bytes, length-append h.text (10 ∷ new.rest));
-      };
+      text = off.text;
+      is = off.is;
+      advances = off.advances;
       at = record {
         whole = old.rest ++ bytes;
         playing = now;
-        inside = h.inside;
-        next = inl (new.rest, h.parts);
-        behind = line_more left' now.taken now.lines (old.rest ++ bytes) h.text new.rest now.played.lie h.parts;
-        shorter = omega (arith, ap length h.parts, length-append h.text (10 ∷ new.rest));
-      };
-    }
-line_came tells armable names left mid left' held held' c old new count z bytes line p took (inr h) =
-    let now = playing_taken tells armable names left mid left' held held' c old new count z bytes p took in
-    let some = not_empty (old.rest ++ bytes) h.some in
-    record {
-      text = old.rest ++ bytes;
-      is = h.is;
-      advances = record {
-        by = omega (arith, took.count, ap length h.none, length-append old.rest bytes);
-        some = omega (arith, took.count, ap length h.none, length-append old.rest bytes, some);
-      };
-      at = record {
-        whole = old.rest ++ bytes;
-        playing = now;
-        inside = h.inside;
-        next = inr (refl, h.at_end);
-        behind = subst (LieIn left' now.taken (now.lines ++ (old.rest ++ bytes) ∷ [])) (sym h.none) (last_more left' now.taken now.lines (old.rest ++ bytes) now.played.lie h.some h.at_end);
-        shorter = omega (arith, ap length h.none);
+        inside = off.inside;
+        next = off.next;
+        behind = off.behind;
+        shorter = off.shorter;
       };
     }
 

@@ -1,5 +1,5 @@
 -- Scripts: what lines play, how the lines are found in the bytes taken, and how far a script came.
-use Rattle.std.specs.Prelude.{◌≡◌, ◌≢◌, ◌⊎◌, ℕ, ◌+◌, ◌<◌, ◌≤◌, Bool, true, false, not, List, [], ◌∷◌, ◌++◌, length, take, codes, filter, All, IsSome}
+use Rattle.std.specs.Prelude.{◌≡◌, ◌≢◌, ◌⊎◌, ℕ, ◌+◌, ◌<◌, Bool, true, false, not, List, [], ◌∷◌, ◌++◌, length, take, codes, filter, All, IsSome}
 use Rattle.std.specs.declared.option.Option.{Option}
 use Rattle.std.specs.declared.option.Option.TheVariants.{None, Some}
 use Rattle.std.specs.List.{flat_map}
@@ -24,6 +24,7 @@ use Rattle.cj_state.specs.Faults.{faults_after, faults_of}
 use Rattle.cj_state.specs.CalledLogins.{logins_of}
 use Rattle.cj_moves.specs.Logins.{HasLogins}
 use Rattle.cj_core.specs.Played.{given_of}
+use Rattle.cj_words.specs.LinesInBytes.{IsNextLine, IsShortLine, LieIn}
 use Rattle.cj_script.specs.declared.play.ScriptEnd.{ScriptEnd}
 use Rattle.cj_script.specs.declared.play.ScriptEnd.TheVariants.{Done, Line, ReadFault, WriteFault, Spent, NoMemory}
 
@@ -150,21 +151,7 @@ log_faults_through faults [] = faults
 log_faults_through faults (Moves m made ∷ steps) = log_faults_through (log_faults_after faults (tells_log_fault m (given_of made))) steps
 log_faults_through faults (Audits failed text ∷ steps) = log_faults_through faults steps
 
--- ---- lines in bytes
-
--- The bytes are these lines, each with its LF, and a rest; or the last line ends with the bytes, if the source has
--- ended.
-abbrev pub LieIn : Option (List ℕ) → List ℕ → List (List ℕ) → List ℕ → Type 0
-LieIn left bytes lines rest = (bytes ≡ flat_map with_line_feed lines ++ rest) ⊎ ((bytes ++ 10 ∷ [] ≡ flat_map with_line_feed lines) × (rest ≡ []) × IsAtEnd left)
-
--- a line that may be played: no LF is in it, and it is not too long
-pub record IsShortLine (line : List ℕ) : Type 0 where
-  pub inside : IsInLine line
-  pub short : length line ≤ line_limit
-
--- the rest begins with the line
-abbrev pub IsNextLine : Option (List ℕ) → List ℕ → List ℕ → Type 0
-IsNextLine left line rest = ((more : List ℕ) × (rest ≡ line ++ 10 ∷ more)) ⊎ ((rest ≡ line) × IsAtEnd left)
+-- ---- lines that can't be played
 
 -- the line is no move's, and no audit
 abbrev pub IsNoMove : List (List ℕ) → List ℕ → Type 0

@@ -4,7 +4,8 @@ use Rattle.std.proofs.lemmas.List.Elements.{All-cons, All-head, All-nil, All-pus
 use Rattle.cj_top.proofs.Common.{flat_map, flat_map-append, flat_map-cons, IfSome, le-ltb, lt-ltb, most, ScriptEnd, WorldState}
 use Rattle.cj_outside.specs.Lines.{IsInLine}
 use Rattle.cj_cluster.specs.Script.Lines.{with_line_feed}
-use Rattle.cj_script.specs.Script.{CameTo, IsNextLine, IsShortLine, IsWrong, LieIn, Plays, PlaysLine}
+use Rattle.cj_script.specs.Script.{CameTo, IsWrong, Plays, PlaysLine}
+use Rattle.cj_words.specs.LinesInBytes.{IsNextLine, IsShortLine, LieIn}
 use Rattle.cj_script.specs.declared.play.ScriptEnd.TheVariants as end
 use Rattle.cj_top.specs.Completeness.{AreLines, EndsAtLine, IsFirstWrong, IsPlayable, PlaysInput, is_script_end_by_input, is_short_input}
 

@@ -1,1 +1,2 @@
+pub mod LinesInBytes
 pub mod Words

@@ -33,9 +33,11 @@ returns-then-d-length-clause-more g c = noted_then (pass_view c.args.pass.now.se
 
 pub returns-then-d-length-clause-loads : goal.returns-then-d-length-clause-loads
 returns-then-d-length-clause-loads g c =
+    let u = pass_view c.args.pass.now.seat in
     let v = pass_view c.log_length-length.new.pass.seat in
     let w = pass_view c.stand.new.pass.seat in
     let later : HasNotedMore v w = noted_then v (pass_view c.is_enabled.new.pass.seat) w c.is_enabled.ensures.more c.stand.ensures.more in
+    let before : HasNotedMore u w = noted_then u v w c.log_length-length.ensures.more later in
     let more : c.log_length-length.result < c.args.d.position = search rules in
     (refl, v.front, c.log_length-length.ensures.more.seen.front, later.seen.front, subst (λ (k : ℕ). k < c.args.d.position) c.log_length-length.ensures.length more)
 
@@ -46,9 +48,11 @@ load_part-requires-clause-storable g c =
 
 pub load_part-requires-clause-within : goal.load_part-requires-clause-within
 load_part-requires-clause-within g c =
+    let u = pass_view c.args.pass.now.seat in
     let v = pass_view c.log_length-length.new.pass.seat in
     let w = pass_view c.stand.new.pass.seat in
     let later : HasNotedMore v w = noted_then v (pass_view c.is_enabled.new.pass.seat) w c.is_enabled.ensures.more c.stand.ensures.more in
+    let before : HasNotedMore u w = noted_then u v w c.log_length-length.ensures.more later in
     let most : c.args.d.position ≤ c.log_length-length.result = search rules in
     let within : c.args.d.position ≤ length (log v.front) = subst (λ (k : ℕ). c.args.d.position ≤ k) c.log_length-length.ensures.length most in
     let same : c.cut-position.result ≡ cut c.args.d g.J.Naming.layout c.args.b = c.cut-position.ensures ∙ ap (λ (l : Layout). cut c.args.d l c.args.b) c.args.self.now.laid in
@@ -68,9 +72,11 @@ load_part-requires-clause-right g c on =
 
 pub returns-in-Ok-true-clause-loads : goal.returns-in-Ok-true-clause-loads
 returns-in-Ok-true-clause-loads g c =
+    let u = pass_view c.args.pass.now.seat in
     let v = pass_view c.log_length-length.new.pass.seat in
     let w = pass_view c.stand.new.pass.seat in
     let later : HasNotedMore v w = noted_then v (pass_view c.is_enabled.new.pass.seat) w c.is_enabled.ensures.more c.stand.ensures.more in
+    let before : HasNotedMore u w = noted_then u v w c.log_length-length.ensures.more later in
     let most : c.args.d.position ≤ c.log_length-length.result = search rules in
     let within : c.args.d.position ≤ length (log v.front) = subst (λ (k : ℕ). c.args.d.position ≤ k) c.log_length-length.ensures.length most in
     let nothing : c.lacks.result ≡ None = search rules in

@@ -1,0 +1,4 @@
+pub mod Answers
+pub mod Chats
+pub mod Steps
+pub mod Texts
