@@ -1,0 +1,69 @@
+//! A program that tries a cluster that threads share. `checks/stress` runs it.
+//!
+//! `stress` starts a cluster over the recovery log that lies in its folder. It serves sessions with random statements in
+//! threads of their own, while an administrator ends orphans, sets checkpoints, audits and disables a backend. It writes
+//! what each session sent and was sent: whoever reads that and the log can tell whether each reply is one database's.
+//! It promises nothing of its own.
+//!
+//! To change: what threads do is in `client.rt` and `administrator.rt`, a new kind of statement in `statements.rt`. Words
+//! are in `tasks.rt`.
+#![tactic(auto)]
+
+mod administrator;
+mod client;
+mod configured;
+mod gate;
+mod lines;
+mod started;
+mod statements;
+mod tasks;
+mod trial;
+mod worker;
+
+use crate::configured::setting;
+use crate::lines::Lines;
+use crate::tasks::{USAGE, task_of};
+use crate::trial::try_start;
+use cj_edge::{FileStore, StdSink, words};
+use cj_outside::{Sink, write_all};
+use std::alloc::Global;
+use std::fs::File;
+use std::process::ExitCode;
+use std::rt::Files;
+
+/// The file in the folder in which this program runs that is the recovery log.
+const LOG: &str = "stress.log";
+
+/// Opens the recovery log.
+fn log<R: Files<File = File> + Copy>(rt: R, alloc: Global) -> Option<FileStore<R>> {
+    let path = String::from_str(alloc, LOG).ok()?;
+    Some(FileStore::open(rt, path))
+}
+
+/// Writes what was told, and returns the status.
+fn end_with(output: &mut impl Sink, told: Option<Lines>) -> u8 {
+    let Some(lines) = told else {
+        return 1;
+    };
+    match write_all(output, &lines.into_text()) {
+        Ok(()) => 0,
+        Err(_) => 1,
+    }
+}
+
+// What goes into threads has to be of types that are known here: no other function may have the host's handle.
+fn main(rt: HostRuntime) -> ExitCode {
+    let alloc = rt.alloc();
+    let Some(plan) = words(&rt).ok().and_then(|words| task_of(&words)) else {
+        let _ = write_all(&mut StdSink::new(rt.stderr()), USAGE.as_bytes());
+        return ExitCode::from(2);
+    };
+    let Some(log) = log(rt, alloc) else {
+        return ExitCode::from(1);
+    };
+    let told = match setting(rt, alloc, plan) {
+        Some((conf, backends)) => try_start(&rt, alloc, plan, conf, log, backends),
+        None => None,
+    };
+    ExitCode::from(end_with(&mut StdSink::new(rt.stdout()), told))
+}
