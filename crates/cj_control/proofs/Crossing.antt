@@ -169,6 +169,12 @@ board_sync = search (sendable, event_send, heap.crosses, heap.send, heap.sync, t
 named_board_sync : (J : RattleType) (n : naming.Ghosts J.Denot) → IsSync J → IsSync (named_board.the_field J n).row
 named_board_sync J n yj = search (board_sync, sendable) depth 40
 
+board_send : IsSend (board.the_field).row
+board_send = search (sendable, event_send, heap.crosses, heap.send, heap.sync, table.the_field_send) depth 40
+
+named_board_send : (J : RattleType) (n : naming.Ghosts J.Denot) → IsSend J → IsSend (named_board.the_field J n).row
+named_board_send J n sj = search (board_send, sendable) depth 40
+
 -- ---- what threads are handed
 
 pub pass_send : (J : RattleType) (n : naming.Ghosts J.Denot) → IsSend J → IsSend (pass.the_row J n)
@@ -179,6 +185,12 @@ locks_sync J B S n b s sj yj sb ss = search (named_board_sync, locked_book_send,
 
 pub control_sync : (J B S : RattleType) (n : naming.Ghosts J.Denot) (b : backend.Ghosts B.Denot) (s : store.Ghosts S.Denot) → IsSend J → IsSync J → IsSend B → IsSend S → IsSync (control.the_row J B S n b s)
 control_sync J B S n b s sj yj sb ss = search (locks_sync, locked_cell_send, heap.crosses, sendable) depth 60 fits 20000
+
+locks_send : (J B S : RattleType) (n : naming.Ghosts J.Denot) (b : backend.Ghosts B.Denot) (s : store.Ghosts S.Denot) → IsSend J → IsSend B → IsSend S → IsSend (locks.the_field J B S n b s).row
+locks_send J B S n b s sj sb ss = search (named_board_send, locked_book_send, locked_cell_send, heap.crosses, sendable) depth 60 fits 20000
+
+pub control_send : (J B S : RattleType) (n : naming.Ghosts J.Denot) (b : backend.Ghosts B.Denot) (s : store.Ghosts S.Denot) → IsSend J → IsSend B → IsSend S → IsSend (control.the_row J B S n b s)
+control_send J B S n b s sj sb ss = search (locks_send, locked_cell_send, heap.crosses, sendable) depth 60 fits 20000
 
 pub store_send : IsSend mem_store.the_row
 store_send = search (heap.crosses, sendable) depth 60 fits 20000
