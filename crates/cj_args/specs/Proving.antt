@@ -1,11 +1,11 @@
 -- How the words are read, from the first on, for proofs alone. What they ask for is said in Words, and is shown to be
 -- the same.
-use Rattle.std.specs.Prelude.{ℕ, nat_lt, Bool, false, ◌||◌, List, [], ◌∷◌, length, take, drop, codes, if◌then◌else◌}
+use Rattle.std.specs.Prelude.{ℕ, nat_lt, Bool, false, ◌&&◌, ◌||◌, List, [], ◌∷◌, length, take, drop, codes, if◌then◌else◌, option_map}
 use Rattle.std.specs.declared.option.Option.{Option}
 use Rattle.std.specs.declared.option.Option.TheVariants.{None, Some}
 use Rattle.std.specs.Str.{bytes_eq}
 use Rattle.std.specs.Str.Parse.{digits_value}
-use Rattle.cj_args.specs.Words.{names_file, is_numeral}
+use Rattle.cj_args.specs.Words.{file_of, names_file, is_numeral}
 use Rattle.cj_args.specs.declared.asked.Verb.{Verb}
 use Rattle.cj_args.specs.declared.asked.Verb.TheVariants as verb
 use Rattle.cj_args.specs.declared.asked.Topic.TheVariants as topic
@@ -114,6 +114,7 @@ file_command verb.Pipe conf = Some (command.Pipe conf)
 file_command verb.Script conf = Some (command.Script conf)
 file_command verb.Log conf = Some (command.Log conf)
 file_command verb.Gen conf = None
+file_command verb.Serve conf = None
 
 abbrev pub only_conf : List (List ℕ) → Option (List ℕ)
 only_conf [] = None
@@ -133,12 +134,33 @@ is_only word [] = false
 is_only word (w ∷ []) = bytes_eq w word
 is_only word (w ∷ next ∷ words) = false
 
-abbrev pub or_help : Verb → List (List ℕ) → Option Command → Option Asked
+abbrev pub serving_parts : List (List ℕ) → Option (List ℕ × List ℕ)
+serving_parts [] = None
+serving_parts (conf ∷ []) = None
+serving_parts (conf ∷ address ∷ []) = if names_file conf && names_file address then Some (conf, address) else None
+serving_parts (conf ∷ address ∷ next ∷ words) = None
+
+abbrev pub as_serving : Option (List ℕ × List ℕ) → Option Asked
+as_serving None = None
+as_serving (Some parts) = Some (asked.Serve parts.0 parts.1)
+
+abbrev pub serving : List (List ℕ) → Option Asked
+serving words = as_serving (serving_parts words)
+
+abbrev pub as_work : Option Command → Option Asked
+as_work None = None
+as_work (Some c) = Some (asked.Command c)
+
+abbrev pub work_of : Verb → List (List ℕ) → Option Asked
+work_of verb.Serve words = serving words
+work_of v words = as_work (command_of v words)
+
+abbrev pub or_help : Verb → List (List ℕ) → Option Asked → Option Asked
 or_help v words None = if is_only (codes "--help") words then Some (asked.Help (topic.Command v)) else None
-or_help v words (Some c) = Some (asked.Command c)
+or_help v words (Some a) = Some a
 
 abbrev pub asked_of_verb : Verb → List (List ℕ) → Option Asked
-asked_of_verb v words = or_help v words (command_of v words)
+asked_of_verb v words = or_help v words (work_of v words)
 
 abbrev pub asked_of_program : List (List ℕ) → Option Asked
 asked_of_program words = if is_only (codes "--help") words then Some (asked.Help topic.Program) else if is_only (codes "--version") words then Some asked.Version else None
@@ -146,7 +168,8 @@ asked_of_program words = if is_only (codes "--help") words then Some (asked.Help
 abbrev pub verb_of : List ℕ → Option Verb
 verb_of word =
     if bytes_eq word (codes "pipe") then Some verb.Pipe else if bytes_eq word (codes "script") then Some verb.Script
-    else if bytes_eq word (codes "log") then Some verb.Log else if bytes_eq word (codes "gen") then Some verb.Gen else None
+    else if bytes_eq word (codes "log") then Some verb.Log else if bytes_eq word (codes "gen") then Some verb.Gen
+    else if bytes_eq word (codes "serve") then Some verb.Serve else None
 
 abbrev pub by_verb : List (List ℕ) → List (List ℕ) → Option Verb → Option Asked
 by_verb words rest None = asked_of_program words
@@ -156,11 +179,21 @@ abbrev pub asked_of : List (List ℕ) → Option Asked
 asked_of [] = None
 asked_of (word ∷ rest) = by_verb (word ∷ rest) rest (verb_of word)
 
-abbrev pub of_verb : List (List ℕ) → Option Verb → Option Command
-of_verb rest None = None
-of_verb rest (Some v) = command_of v rest
+-- the configuration's file of what a verb asks for with these words after it
+abbrev pub file_of_verb : Verb → List (List ℕ) → Option (List ℕ)
+file_of_verb verb.Serve rest = option_map (λ parts. parts.0) (serving_parts rest)
+file_of_verb v rest = option_map file_of (command_of v rest)
 
--- the command that the words are
-abbrev pub command_in : List (List ℕ) → Option Command
-command_in [] = None
-command_in (word ∷ rest) = of_verb rest (verb_of word)
+abbrev pub of_verb : List (List ℕ) → Option Verb → Option (List ℕ)
+of_verb rest None = None
+of_verb rest (Some v) = file_of_verb v rest
+
+-- the configuration's file of what the words ask for
+abbrev pub file_in : List (List ℕ) → Option (List ℕ)
+file_in [] = None
+file_in (word ∷ rest) = of_verb rest (verb_of word)
+
+-- the address at which the words ask to serve
+abbrev pub address_in : List (List ℕ) → Option (List ℕ)
+address_in [] = None
+address_in (word ∷ rest) = if bytes_eq word (codes "serve") then option_map (λ parts. parts.1) (serving_parts rest) else None

@@ -54,6 +54,7 @@ word_of verb.Pipe = codes "pipe"
 word_of verb.Script = codes "script"
 word_of verb.Log = codes "log"
 word_of verb.Gen = codes "gen"
+word_of verb.Serve = codes "serve"
 
 -- the words are the command's word and CONF after it
 abbrev pub IsOverFile : Verb → List (List ℕ) → List ℕ → Type 0
@@ -66,6 +67,14 @@ Says words (command.Script conf) = IsOverFile verb.Script words conf
 Says words (command.Log conf) = IsOverFile verb.Log words conf
 Says words (command.Gen conf seed count) = (rest : List (List ℕ)) × (words ≡ word_of verb.Gen ∷ rest) × IsWorkload rest conf seed count
 
+-- the words are `serve`, a configuration and an address
+abbrev pub AsksToServeAt : List (List ℕ) → (conf address : List ℕ) → Type 0
+AsksToServeAt words conf address = (words ≡ word_of verb.Serve ∷ conf ∷ address ∷ []) × (names_file conf ≡ true) × (names_file address ≡ true)
+
+-- the words ask for work: they are a command's, or ask to serve
+abbrev pub SaysWork : List (List ℕ) → Type 0
+SaysWork words = ((c : Command) × Says words c) ⊎ ((conf : List ℕ) × (address : List ℕ) × AsksToServeAt words conf address)
+
 -- the configuration's file of a command
 abbrev pub file_of : Command → List ℕ
 file_of (command.Pipe conf) = conf
@@ -73,9 +82,14 @@ file_of (command.Script conf) = conf
 file_of (command.Log conf) = conf
 file_of (command.Gen conf seed count) = conf
 
+-- this is the configuration's file of what the words ask for
+abbrev pub NamesConf : List (List ℕ) → List ℕ → Type 0
+NamesConf words conf = ((c : Command) × Says words c × (conf ≡ file_of c)) ⊎ ((address : List ℕ) × AsksToServeAt words conf address)
+
 -- what the words ask for
 abbrev pub AsksCommand : List (List ℕ) → Asked → Type 0
 AsksCommand words (asked.Command c) = Says words c
+AsksCommand words (asked.Serve conf address) = AsksToServeAt words conf address
 AsksCommand words (asked.Help topic.Program) = words ≡ codes "--help" ∷ []
 AsksCommand words (asked.Help (topic.Command v)) = words ≡ word_of v ∷ codes "--help" ∷ []
 AsksCommand words asked.Version = words ≡ codes "--version" ∷ []

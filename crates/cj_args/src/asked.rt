@@ -1,4 +1,4 @@
-//! What the words may ask for.
+//! What the words may ask for: a command over the streams alone, to serve a cluster, a text of help, the version.
 
 use crate::conf::ConfPath;
 
@@ -9,6 +9,7 @@ pub enum Verb {
     Script,
     Log,
     Gen,
+    Serve,
 }
 
 /// What a help text is about.
@@ -45,6 +46,8 @@ pub enum Command {
 #[derive(Drop)]
 pub enum Asked {
     Command(Command),
+    /// Serve connections at the address, and a console on the streams.
+    Serve { conf: ConfPath, address: ConfPath },
     Help(Topic),
     Version,
 }

@@ -1,4 +1,4 @@
-//! The path of a configuration's file.
+//! A word that names a configuration's file, or an address.
 
 ghost use Rattle.std.specs.Prelude.{◌≡◌, IfOk};
 
@@ -6,7 +6,7 @@ use cj_model::NoMemory;
 use std::alloc::Global;
 use std::marker::Model;
 
-/// The path of a configuration's file, which contracts see as its bytes.
+/// The path of a configuration's file or an address, which contracts see as its bytes.
 #[derive(Drop)]
 pub struct ConfPath {
     text: String,
@@ -28,7 +28,7 @@ impl ConfPath {
         Ok(ConfPath { text })
     }
 
-    /// Returns the path as it was written.
+    /// Returns the word as it was written.
     pub fn as_str(&self) -> &str
         ensures { result.now ≡ self.now }
     {

@@ -1,10 +1,9 @@
 //! Reads the words after the program's name.
 
-ghost use Rattle.std.specs.Prelude.{◌≡◌, ◌↔◌, map, option_copied, option_map, string_bytes, IfErr, IfOk, IfSome, IsNone, IsSome};
-ghost use Rattle.cj_args.specs.Words.{AsksCommand, Says, file_of};
+ghost use Rattle.std.specs.Prelude.{◌≡◌, ◌↔◌, ℕ, List, map, option_copied, option_map, string_bytes, IfErr, IfOk, IfSome, IsNone, IsSome};
+ghost use Rattle.cj_args.specs.Words.{AsksCommand, AsksToServeAt, NamesConf, SaysWork};
 ghost use Rattle.cj_args.specs.Proving as reading;
 ghost use Rattle.cj_args.specs.declared.asked.Asked.{Asked};
-ghost use Rattle.cj_args.specs.declared.asked.Command.{Command};
 
 use crate::asked::{Asked, Command, Topic, Verb};
 use crate::conf::ConfPath;
@@ -26,6 +25,9 @@ fn verb_of(word: &str) -> Option<Verb>
     }
     if word == "gen" {
         return Some(Verb::Gen);
+    }
+    if word == "serve" {
+        return Some(Verb::Serve);
     }
     None
 }
@@ -53,7 +55,7 @@ fn workload_command(alloc: Global, words: &[String]) -> Result<Option<Command>, 
     }
 }
 
-/// Returns the command of a verb other than `gen`, with its one file.
+/// Returns the command of a verb that has one file and nothing else.
 fn file_command(alloc: Global, verb: Verb, conf: &str) -> Result<Option<Command>, NoMemory>
     ensures found { IfOk result (λ command. command ≡ reading.file_command verb conf.now) }
     ensures memory { IfErr result (λ _. IsSome (reading.file_command verb conf.now)) }
@@ -71,7 +73,7 @@ fn file_command(alloc: Global, verb: Verb, conf: &str) -> Result<Option<Command>
             let conf = ConfPath::of(alloc, conf)?;
             Ok(Some(Command::Log { conf }))
         }
-        Verb::Gen => Ok(None),
+        Verb::Gen | Verb::Serve => Ok(None),
     }
 }
 
@@ -89,6 +91,47 @@ fn command_of(alloc: Global, verb: Verb, words: &[String]) -> Result<Option<Comm
     }
 }
 
+/// Returns the configuration and the address, if the words are these two.
+fn serving_parts(words: &[String]) -> Option<(&str, &str)>
+    ensures { option_map (λ r. (r.0.now, r.1.now)) result ≡ reading.serving_parts (map string_bytes words.now) }
+{
+    match words {
+        [conf, address] if names_file(conf.as_str()) && names_file(address.as_str()) => {
+            Some((conf.as_str(), address.as_str()))
+        }
+        _ => None,
+    }
+}
+
+/// Returns what the words after `serve` ask for, if they are a configuration and an address.
+fn serving(alloc: Global, words: &[String]) -> Result<Option<Asked>, NoMemory>
+    ensures found { IfOk result (λ asked. asked ≡ reading.serving (map string_bytes words.now)) }
+    ensures memory { IfErr result (λ _. IsSome (reading.serving (map string_bytes words.now))) }
+{
+    match serving_parts(words) {
+        None => Ok(None),
+        Some((conf, address)) => {
+            let conf = ConfPath::of(alloc, conf)?;
+            let address = ConfPath::of(alloc, address)?;
+            Ok(Some(Asked::Serve { conf, address }))
+        }
+    }
+}
+
+/// Returns the work that the words after a verb ask for, if they ask for any.
+fn work_of(alloc: Global, verb: Verb, words: &[String]) -> Result<Option<Asked>, NoMemory>
+    ensures found { IfOk result (λ asked. asked ≡ reading.work_of verb (map string_bytes words.now)) }
+    ensures memory { IfErr result (λ _. IsSome (reading.work_of verb (map string_bytes words.now))) }
+{
+    if verb == Verb::Serve {
+        return serving(alloc, words);
+    }
+    match command_of(alloc, verb, words)? {
+        Some(command) => Ok(Some(Asked::Command(command))),
+        None => Ok(None),
+    }
+}
+
 /// Whether the text is the only word.
 fn is_only(text: &str, words: &[String]) -> bool
     ensures { result ≡ reading.is_only text.now (map string_bytes words.now) }
@@ -99,13 +142,13 @@ fn is_only(text: &str, words: &[String]) -> bool
     }
 }
 
-/// Returns what the words after a verb ask for: its command, or its help.
+/// Returns what the words after a verb ask for: its work, or its help.
 fn asked_of_verb(alloc: Global, verb: Verb, words: &[String]) -> Result<Option<Asked>, NoMemory>
     ensures found { IfOk result (λ asked. asked ≡ reading.asked_of_verb verb (map string_bytes words.now)) }
-    ensures memory { IfErr result (λ _. IsSome (reading.command_of verb (map string_bytes words.now))) }
+    ensures memory { IfErr result (λ _. IsSome (reading.work_of verb (map string_bytes words.now))) }
 {
-    if let Some(command) = command_of(alloc, verb, words)? {
-        return Ok(Some(Asked::Command(command)));
+    if let Some(asked) = work_of(alloc, verb, words)? {
+        return Ok(Some(asked));
     }
     if is_only("--help", words) {
         return Ok(Some(Asked::Help(Topic::Command(verb))));
@@ -128,7 +171,7 @@ fn asked_of_program(words: &[String]) -> Option<Asked>
 
 fn asked_of(alloc: Global, words: &[String]) -> Result<Option<Asked>, NoMemory>
     ensures found { IfOk result (λ asked. asked ≡ reading.asked_of (map string_bytes words.now)) }
-    ensures memory { IfErr result (λ _. (command : Command) × Says (map string_bytes words.now) command) }
+    ensures memory { IfErr result (λ _. SaysWork (map string_bytes words.now)) }
 {
     match next_word(words) {
         None => Ok(None),
@@ -140,44 +183,73 @@ fn asked_of(alloc: Global, words: &[String]) -> Result<Option<Asked>, NoMemory>
 }
 
 /// Returns what the words after the program's name ask for, or `None` if they ask for nothing.
-/// `NoMemory` is the only error, and comes only for the words of a command.
+/// `NoMemory` is the only error, and comes only for words that ask for work.
 pub fn read(alloc: Global, words: &[String]) -> Result<Option<Asked>, NoMemory>
     ensures found { IfOk result (λ found. (asked : Asked) → (found ≡ Some asked) ↔ AsksCommand (map string_bytes words.now) asked) }
-    ensures memory { IfErr result (λ _. (command : Command) × Says (map string_bytes words.now) command) }
+    ensures memory { IfErr result (λ _. SaysWork (map string_bytes words.now)) }
 {
     asked_of(alloc, words)
 }
 
-/// Returns the file of the command that the verb is with these words after it.
-fn conf_of(verb: Verb, words: &[String]) -> Option<&str>
-    ensures { option_copied result ≡ option_map file_of (reading.command_of verb (map string_bytes words.now)) }
+/// Returns the configuration's file of what the verb asks for with these words after it.
+fn file_of_verb(verb: Verb, words: &[String]) -> Option<&str>
+    ensures { option_copied result ≡ reading.file_of_verb verb (map string_bytes words.now) }
 {
-    if verb == Verb::Gen {
-        return match workload(words) {
+    match verb {
+        Verb::Gen => match workload(words) {
             Some((conf, _, _)) => Some(conf),
             None => None,
-        };
+        },
+        Verb::Serve => match serving_parts(words) {
+            Some((conf, _)) => Some(conf),
+            None => None,
+        },
+        Verb::Pipe | Verb::Script | Verb::Log => only_conf(words),
     }
-    only_conf(words)
 }
 
-fn conf_in(words: &[String]) -> Option<&str>
-    ensures { option_copied result ≡ option_map file_of (reading.command_in (map string_bytes words.now)) }
+fn file_in(words: &[String]) -> Option<&str>
+    ensures { option_copied result ≡ reading.file_in (map string_bytes words.now) }
 {
     match next_word(words) {
         None => None,
         Some((word, rest)) => match verb_of(word) {
-            Some(verb) => conf_of(verb, rest),
+            Some(verb) => file_of_verb(verb, rest),
             None => None,
         },
     }
 }
 
-/// Returns the configuration's file of the command that the words are, or `None` exactly if they
-/// are no command. This takes no memory.
-pub fn conf_word(words: &[String]) -> Option<&str>
-    ensures some { IfSome result (λ conf. (command : Command) × Says (map string_bytes words.now) command × (conf.now ≡ file_of command)) }
-    ensures none { IsNone result → (command : Command) → Says (map string_bytes words.now) command → ⊥ }
+fn address_in(words: &[String]) -> Option<&str>
+    ensures { option_copied result ≡ reading.address_in (map string_bytes words.now) }
 {
-    conf_in(words)
+    match next_word(words) {
+        None => None,
+        Some((word, rest)) => {
+            if word != "serve" {
+                return None;
+            }
+            match serving_parts(rest) {
+                Some((_, address)) => Some(address),
+                None => None,
+            }
+        }
+    }
+}
+
+/// Returns the configuration's file of what the words ask for, or `None` exactly if they ask for no work. This takes no
+/// memory.
+pub fn conf_word(words: &[String]) -> Option<&str>
+    ensures some { IfSome result (λ conf. NamesConf (map string_bytes words.now) conf.now) }
+    ensures none { IsNone result → (conf : List ℕ) → NamesConf (map string_bytes words.now) conf → ⊥ }
+{
+    file_in(words)
+}
+
+/// Returns the address at which the words ask to serve, or `None` exactly if they don't. This takes no memory.
+pub fn address_word(words: &[String]) -> Option<&str>
+    ensures some { IfSome result (λ address. (conf : List ℕ) × AsksToServeAt (map string_bytes words.now) conf address.now) }
+    ensures none { IsNone result → (conf address : List ℕ) → AsksToServeAt (map string_bytes words.now) conf address → ⊥ }
+{
+    address_in(words)
 }

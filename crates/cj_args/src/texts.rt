@@ -43,6 +43,14 @@ Log:     CONF.log, which nothing else may use meanwhile
 Example: cjc log example/c1.toml
 Exit statuses: docs/OPERATIONS.md";
 
+const SERVE: &str = "Serve connections at an address, with a console on standard input and output";
+
+const SERVE_NOTES: &str = "Input:   commands of the console (docs/CONSOLE.md)
+Output:  their answers
+Log:     CONF.log, which each start goes on from; dumps are in CONF.dumps
+Example: cjc serve example/c1.toml 127.0.0.1:7400
+Exit statuses: docs/OPERATIONS.md";
+
 const GEN_NOTES: &str = "Input:   none
 Output:  a line for each sum, as `statements N`; the same N give the same lines
 Log:     in memory; CONF.log is not touched
@@ -90,7 +98,8 @@ fn program_help(alloc: Global) -> Result<String, NoMemory> {
         .subcommand(Command::new(alloc, "pipe").about(PIPE))?
         .subcommand(Command::new(alloc, "script").about(SCRIPT))?
         .subcommand(Command::new(alloc, "log").about(LOG))?
-        .subcommand(Command::new(alloc, "gen").about(GEN))?;
+        .subcommand(Command::new(alloc, "gen").about(GEN))?
+        .subcommand(Command::new(alloc, "serve").about(SERVE))?;
     Ok(program.render_help()?)
 }
 
@@ -123,6 +132,20 @@ fn gen_help(alloc: Global) -> Result<String, NoMemory> {
     Ok(command.render_help()?)
 }
 
+fn serve_help(alloc: Global) -> Result<String, NoMemory> {
+    let address = Arg::new(alloc, "ADDR").required(true).help(
+        "Where to listen: a host's name or number, a colon and a port's number",
+    );
+    let mut command = Command::new(alloc, "cjc serve")
+        .about(SERVE)
+        .after_help(SERVE_NOTES)
+        .disable_help_flag(true)
+        .arg(conf(alloc))?
+        .arg(address)?
+        .arg(help_flag(alloc))?;
+    Ok(command.render_help()?)
+}
+
 /// Returns the text of help on a topic, with a line feed at its end. `NoMemory` is the only error.
 pub fn help_text(alloc: Global, topic: Topic) -> Result<String, NoMemory> {
     match topic {
@@ -131,6 +154,7 @@ pub fn help_text(alloc: Global, topic: Topic) -> Result<String, NoMemory> {
         Topic::Command(Verb::Script) => file_help(alloc, "cjc script", SCRIPT, SCRIPT_NOTES),
         Topic::Command(Verb::Log) => file_help(alloc, "cjc log", LOG, LOG_NOTES),
         Topic::Command(Verb::Gen) => gen_help(alloc),
+        Topic::Command(Verb::Serve) => serve_help(alloc),
     }
 }
 

@@ -5,11 +5,11 @@ ghost use Rattle.cj_explain.specs.Explanations.{HasLine, HasNoLine};
 
 /// The status at which a line is told, what the line is about, and the line. What the line of a script is about is its
 /// first word. The first row of a status is for all that no other row of it is about.
-pub const LINES: [(u8, &str, &str); 35] = [
+pub const LINES: [(u8, &str, &str); 36] = [
     (
         2,
         "",
-        "usage: cjc pipe|script|log CONF, or cjc gen CONF --seed N --count N (cjc --help)\n",
+        "usage: cjc pipe|script|log CONF, cjc serve CONF ADDR, or cjc gen CONF --seed N --count N (cjc --help)\n",
     ),
     (2, "not UTF-8", "a word of the command line is not UTF-8\n"),
     (
@@ -81,6 +81,11 @@ pub const LINES: [(u8, &str, &str); 35] = [
         8,
         "listing",
         "CONF.log is damaged, or a program is adding to it: then list it again\n",
+    ),
+    (
+        9,
+        "",
+        "listening failed: check ADDR, and whether another program listens there\n",
     ),
     (
         10,

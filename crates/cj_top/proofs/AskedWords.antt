@@ -1,7 +1,7 @@
 -- What follows from what words were read as.
 use Rattle.std.proofs.Common.{◌≡◌, ◌↔◌, inl, inr, ℕ, List, Option, None, Some, subst}
 use Rattle.cj_top.proofs.Common.{Command, Gen, Log, Pipe, Script}
-use Rattle.cj_args.specs.Words.{AsksCommand, Says}
+use Rattle.cj_args.specs.Words.{AsksCommand, Says, SaysWork}
 use Rattle.cj_args.specs.declared.asked.Asked.{Asked}
 use Rattle.cj_args.specs.declared.asked.Asked.TheVariants as asked
 use Rattle.cj_args.specs.declared.asked.Topic.{Topic}
@@ -14,6 +14,11 @@ few_said words (Pipe path) says = tt
 few_said words (Script path) says = tt
 few_said words (Log path) says = tt
 few_said words (Gen path seed count) says = says.2.most
+
+-- words that ask for work ask for something
+pub work_asked : (words : List (List ℕ)) → SaysWork words → ((a : Asked) → AsksCommand words a → ⊥) → ⊥
+work_asked words (inl (command, says)) none = none (asked.Command command) says
+work_asked words (inr (conf, address, serves)) none = none (asked.Serve conf address) serves
 
 module _ (words : List (List ℕ)) (found : Option Asked) (reads : (a : Asked) → (found ≡ Some a) ↔ AsksCommand words a) where
   command_same : (a b : Command) → found ≡ Some (asked.Command a) → Says words b → a ≡ b
@@ -32,6 +37,13 @@ module _ (words : List (List ℕ)) (found : Option Asked) (reads : (a : Asked) �
 
   pub version_is_no_command : (b : Command) → found ≡ Some asked.Version → Says words b → ⊥
   version_is_no_command b is says = let other = (reads (asked.Command b)).1 says in absurd (cc (is, other))
+
+  pub serving_is_no_command : (conf address : List ℕ) (b : Command) → found ≡ Some (asked.Serve conf address) → Says words b → ⊥
+  serving_is_no_command conf address b is says = let other = (reads (asked.Command b)).1 says in absurd (cc (is, other))
+
+  pub serving_is_no_text : (conf address : List ℕ) → found ≡ Some (asked.Serve conf address) → AsksForText words → ⊥
+  serving_is_no_text conf address is (inl (topic, asks)) = let other = (reads (asked.Help topic)).1 asks in absurd (cc (is, other))
+  serving_is_no_text conf address is (inr asks) = let other = (reads asked.Version).1 asks in absurd (cc (is, other))
 
   pub asks_nothing : found ≡ None → (a : Asked) → AsksCommand words a → ⊥
   asks_nothing is a asks = let other = (reads a).1 asks in absurd (cc (is, other))

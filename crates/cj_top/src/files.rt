@@ -1,10 +1,10 @@
-//! The files that a command names. (Its own file, since `paths` has the same letters.)
+//! What the words of a command name outside. (Its own file, since `paths` has the same letters.)
 
-/// The files that a command names.
+/// The file and the address that words name.
 #[derive(Clone, Copy)]
 pub struct Paths<'a> {
     /// The file of the configuration.
     pub conf: &'a str,
-    /// The address at which connections are accepted; no command does so yet.
+    /// The address at which connections are accepted, if they are.
     pub address: Option<&'a str>,
 }

@@ -23,9 +23,11 @@ mod refused;
 mod scripted;
 mod words;
 
+pub use configured::{Unconfigured, any_backends, are_in_memory, conf_of, parts_of, tell_refusal};
 pub use files::Paths;
 pub use laws::completeness_follows;
 pub use piped::{PipeError, pipe};
 pub use program::{Ended, run};
+pub use refused::{stop_at_log, write_bad_record};
 pub use scripted::play;
 pub use words::paths;

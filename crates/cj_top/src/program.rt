@@ -202,8 +202,8 @@ fn write_text<O: Sink>(text: Result<String, NoMemory>, output: &mut O) -> u8
     }
 }
 
-/// Does all that the program does, over the words after its name and what it is handed. Answers the exit status, and
-/// gives the log's store back.
+/// Does all that the program does without threads, over the words after its name and what it is handed. Answers the exit
+/// status, and gives the log's store back.
 ///
 /// `pipe CONF` serves one session from the input to the output, over new backends as the configuration has them. Its
 /// status is 0 where the session ended by a Quit or after a whole frame. It is 4 where the input ended inside a frame
@@ -227,7 +227,7 @@ fn write_text<O: Sink>(text: Result<String, NoMemory>, output: &mut O) -> u8
 /// with 11 where 2^62 bytes were taken, and with 1 for want of memory.
 ///
 /// `--help`, alone or behind the word of a command, and `--version` write their text: 0 where it was written whole.
-/// With other words the status is 2, and nothing is touched.
+/// With other words the status is 2, and nothing is touched; so too where they ask to serve a cluster.
 pub fn run<F: Store, S: Store + Drop, I: Source, O: Sink, E: Sink, C: Clock>(
     alloc: Global,
     words: &[String],
@@ -271,6 +271,8 @@ pub fn run<F: Store, S: Store + Drop, I: Source, O: Sink, E: Sink, C: Clock>(
             status: write_text(version_text(alloc), output),
             log,
         },
+        // A cluster is served by threads, which `cj_program` has.
+        Ok(Some(Asked::Serve { .. })) => Ended { status: 2, log },
         Ok(None) => Ended { status: 2, log },
         Err(NoMemory) => Ended { status: 1, log },
     }

@@ -22,7 +22,8 @@ fn entry_words(alloc: Global, number: u64) -> Result<String, NoMemory>
     Ok(format!(in alloc; "bad entry: {number}\n")?)
 }
 
-fn write_bad_record<E: Sink>(alloc: Global, offset: u64, errors: &mut E) -> Result<(), OutError>
+/// Tells the errors that the record at this offset is bad.
+pub fn write_bad_record<E: Sink>(alloc: Global, offset: u64, errors: &mut E) -> Result<(), OutError>
     ensures bytes { WritesAll (E.held errors.old) (E.held errors.new) (bad_record_line offset) result }
     ensures cause { CountsFault (IsErrOf result OutError.Failed) (E.faults errors.old) (E.faults errors.new) }
 {

@@ -1,22 +1,22 @@
-//! The files of the command that the words are.
+//! What the words of a command name outside.
 
-ghost use Rattle.std.specs.Prelude.{◌≡◌, ◌↔◌, map, string_bytes, IfSome, IsNone};
-ghost use Rattle.cj_args.specs.Words.{Says, file_of};
-ghost use Rattle.cj_args.specs.declared.asked.Command.{Command};
+ghost use Rattle.std.specs.Prelude.{◌≡◌, ◌↔◌, ℕ, List, map, string_bytes, IfSome, IsNone};
+ghost use Rattle.cj_args.specs.Words.{AsksToServeAt, NamesConf};
 
 use crate::files::Paths;
-use cj_args::conf_word;
+use cj_args::{address_word, conf_word};
 
-/// The files that the words name; None exactly where they are no command.
+/// The configuration's file and the address that the words name. None exactly where they ask for no work.
 pub fn paths(words: &[String]) -> Option<Paths<'_>>
-    ensures none { IsNone result ↔ ((command : Command) → Says (map string_bytes words.now) command → ⊥) }
-    ensures conf { IfSome result (λ p. (command : Command) × Says (map string_bytes words.now) command × (p.conf.now ≡ file_of command)) }
-    ensures address { IfSome result (λ p. IsNone p.address) }
+    ensures none { IsNone result ↔ ((conf : List ℕ) → NamesConf (map string_bytes words.now) conf → ⊥) }
+    ensures conf { IfSome result (λ p. NamesConf (map string_bytes words.now) p.conf.now) }
+    ensures address { IfSome result (λ p. IfSome p.address (λ address. (conf : List ℕ) × AsksToServeAt (map string_bytes words.now) conf address.now)) }
+    ensures no_address { IfSome result (λ p. IsNone p.address → (conf address : List ℕ) → AsksToServeAt (map string_bytes words.now) conf address → ⊥) }
 {
     match conf_word(words) {
         Some(conf) => Some(Paths {
             conf,
-            address: None,
+            address: address_word(words),
         }),
         None => None,
     }

@@ -1,22 +1,29 @@
-//! The program: hands files, the standard streams and the clock to `run` of `cj_top`, for the command that its words
-//! say, and to `explain` of `cj_explain`, which tells why it ended with an error.
+//! The program: hands files, the standard streams, the clock and a port to `run` of `cj_program`, for the command that its
+//! words say, and to `explain` of `cj_explain`, which tells why it ended with an error.
 //!
 //! Promised: all that `run` and `explain` promise, for what `cj_edge` tells of these objects. This file has no
 //! contract of its own; `checks/` tries the built program. To change: which store a command gets as its log is
-//! `log_store`. Everything else of a command is in `cj_top`.
+//! `log_store`. Everything else of a command is in `cj_program` and `cj_top`.
 #![tactic(auto)]
 
 use cj_edge::{
     FileStore, Patient, StdSink, StdSource, SystemClock, WordsError, fill_standard_streams, words,
 };
+use cj_edge_net::TcpPort;
 use cj_explain::{Noted, Traces, explain, tell};
 use cj_outside::Sink;
-use cj_top::{paths, run};
+use cj_port::Spawner;
+use cj_program::{paths, run};
 use std::alloc::Global;
 use std::fs::File;
 use std::io::ErrorKind;
+use std::net::{Net, TcpListener, TcpStream};
 use std::process::ExitCode;
 use std::rt::Files;
+use std::sync::Arc;
+
+/// The most connections that are served at a time. Each takes a thread; below this number the system has room for them.
+const CONNECTIONS: usize = 16_384;
 
 /// Opens the recovery log as the command uses it. `log` leaves the file to the program that writes
 /// it. `gen`, and words that are no command, touch no file.
@@ -31,18 +38,54 @@ fn log_store<R: Files<File = File>>(rt: R, words: &[String], path: String) -> Fi
     FileStore::open(rt, path)
 }
 
-/// Opens the configuration and the recovery log, or returns `None` if memory runs out. Where the words are no command
-/// `run` uses neither.
+/// The address at which the words ask to serve, if they do.
+fn address(words: &[String]) -> Option<&str> {
+    paths(words)?.address
+}
+
+/// Opens the dumps, which `serve` alone uses.
+fn dumps_store<R: Files<File = File>>(rt: R, words: &[String], path: String) -> FileStore<R> {
+    match address(words) {
+        Some(_) => FileStore::open(rt, path),
+        None => FileStore::none(rt, path),
+    }
+}
+
+/// The files that the program uses.
+struct Stores<R> {
+    conf: FileStore<R>,
+    log: FileStore<R>,
+    dumps: FileStore<R>,
+}
+
+/// Opens the configuration, the recovery log and the dumps, or returns `None` if memory runs out. Where the words are no
+/// command `run` uses none of them.
 fn stores<R: Files<File = File> + Copy>(
     alloc: Global,
     rt: R,
     words: &[String],
-) -> Option<(FileStore<R>, FileStore<R>)> {
+) -> Option<Stores<R>> {
     let path = paths(words).map_or("", |paths| paths.conf);
-    let log_path = format!(in alloc; "{path}.log").ok()?;
     let conf_path = String::from_str(alloc, path).ok()?;
-    let conf = FileStore::open_to_read(rt, conf_path);
-    Some((conf, log_store(rt, words, log_path)))
+    let log_path = format!(in alloc; "{path}.log").ok()?;
+    let dumps_path = format!(in alloc; "{path}.dumps").ok()?;
+    Some(Stores {
+        conf: FileStore::open_to_read(rt, conf_path),
+        log: log_store(rt, words, log_path),
+        dumps: dumps_store(rt, words, dumps_path),
+    })
+}
+
+/// Listens at the address that the words name, if they name one.
+fn port<R: Net<Listener = TcpListener, Stream = TcpStream>>(
+    alloc: Global,
+    rt: &R,
+    words: &[String],
+) -> TcpPort {
+    match address(words) {
+        Some(address) => TcpPort::bind(rt, alloc, address),
+        None => TcpPort::none(alloc),
+    }
 }
 
 /// Returns the status for words that can't be had. Those that aren't UTF-8 are a faulty command line, which is told.
@@ -67,30 +110,45 @@ fn main(rt: HostRuntime) -> ExitCode {
         Ok(words) => words,
         Err(error) => return refuse_words(error, &mut errors),
     };
-    let Some((mut conf, log)) = stores(rt.alloc(), rt, &words) else {
+    let Some(
+        Stores {
+            mut conf,
+            log,
+            dumps,
+        },
+    ) = stores(rt.alloc(), rt, &words)
+    else {
         return ExitCode::from(1);
     };
-    let log_cause = log.cause();
+    let store_cause = log.cause().or(dumps.cause());
     let mut input = Noted::new(rt.alloc(), StdSource::new(Patient::new(rt.reader(), rt)));
     let mut output = StdSink::new(Patient::new(rt.stdout(), rt));
-    let clock = SystemClock::new(rt);
+    let Ok(clock) = Arc::new(rt.alloc(), SystemClock::new(rt)) else {
+        return ExitCode::from(1);
+    };
+    let mut port = port(rt.alloc(), &rt, &words);
+    let mut spawner = Spawner::new(rt.alloc(), CONNECTIONS);
     let ended = run(
+        &rt,
         rt.alloc(),
         &words,
         &mut conf,
         log,
+        dumps,
         &mut input,
         &mut output,
         &mut errors,
         &clock,
+        &mut port,
+        &mut spawner,
     );
     let traces = Traces {
         words: &words,
         input: input.notes(),
         line: errors.notes().number(),
         conf: conf.cause(),
-        // If the configuration's file had no error, the log's is the one that failed.
-        log: log_cause.or(Some(ErrorKind::Other)),
+        // If the configuration's file had no error, that of the log or of the dumps is the one that failed.
+        log: store_cause.or(Some(ErrorKind::Other)),
     };
     explain(rt.alloc(), ended.status, &traces, &mut conf, &mut errors);
     ExitCode::from(ended.status)

@@ -1,7 +1,7 @@
 use Rattle.std.proofs.Common.{◌≡◌, Some, map}
 use Rattle.std.specs.Prelude.{string_bytes}
 use Rattle.cj_args.specs.declared.asked.Asked.TheVariants as asked
-use Rattle.cj_top.proofs.AskedWords.{asks_for_no_text, asks_nothing, few_said, help_is_no_command, is_no_text, of_command, version_is_no_command}
+use Rattle.cj_top.proofs.AskedWords.{asks_for_no_text, asks_nothing, few_said, help_is_no_command, is_no_text, of_command, serving_is_no_command, serving_is_no_text, version_is_no_command, work_asked}
 use Rattle.cj_top.proofs.program.run.Goals as goal
 
 pub run_command-requires-clause-few : goal.run_command-requires-clause-few
@@ -88,4 +88,22 @@ returns-in-Ok-None-clause-opens g c tells command says =
     absurd (asks_nothing (map string_bytes c.args.words.now) c.in-Ok-None.field-0 c.in-Ok-None.ensures.found c.in-Ok-None.field-0-is (asked.Command command) says)
 
 pub returns-in-Err-clause-other : goal.returns-in-Err-clause-other
-returns-in-Err-clause-other g c none = let said = c.in-Err.ensures.memory in absurd (none (asked.Command said.0) said.1)
+returns-in-Err-clause-other g c none = absurd (work_asked (map string_bytes c.args.words.now) c.in-Err.ensures.memory none)
+
+pub returns-in-Ok-Some-Serve-clause-runs : goal.returns-in-Ok-Some-Serve-clause-runs
+returns-in-Ok-Some-Serve-clause-runs g c command says =
+    let r = c.in-Ok-Some-Serve in
+    let is : r.field-0 ≡ Some (asked.Serve r.conf r.address) = cc (r.field-0-is, r.field-0-0-is) in
+    absurd (serving_is_no_command (map string_bytes c.args.words.now) r.field-0 r.ensures.found r.conf r.address command is says)
+
+pub returns-in-Ok-Some-Serve-clause-text : goal.returns-in-Ok-Some-Serve-clause-text
+returns-in-Ok-Some-Serve-clause-text g c asks =
+    let r = c.in-Ok-Some-Serve in
+    let is : r.field-0 ≡ Some (asked.Serve r.conf r.address) = cc (r.field-0-is, r.field-0-0-is) in
+    absurd (serving_is_no_text (map string_bytes c.args.words.now) r.field-0 r.ensures.found r.conf r.address is asks)
+
+pub returns-in-Ok-Some-Serve-clause-opens : goal.returns-in-Ok-Some-Serve-clause-opens
+returns-in-Ok-Some-Serve-clause-opens g c tells command says =
+    let r = c.in-Ok-Some-Serve in
+    let is : r.field-0 ≡ Some (asked.Serve r.conf r.address) = cc (r.field-0-is, r.field-0-0-is) in
+    absurd (serving_is_no_command (map string_bytes c.args.words.now) r.field-0 r.ensures.found r.conf r.address command is says)

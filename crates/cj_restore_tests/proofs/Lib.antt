@@ -1,0 +1,2 @@
+mod Shelved
+mod Transactions

@@ -1,0 +1,7 @@
+use Rattle.std.specs.Prelude.{true}
+use Rattle.cj_board.specs.Seats.{board_id}
+use Rattle.cj_serve_tests.proofs.clusters.serve_at_new.Given as goal
+
+-- the names of the cluster that is made
+abbrev pub ghosts-serve_at : goal.ghosts-serve_at
+ghosts-serve_at g a = record { board = board_id a.shared.board; layout = a.shared.book.state.layout; turn = a.blank.name; tells = true }
