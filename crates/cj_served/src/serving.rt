@@ -67,15 +67,7 @@ fn accept<
 }
 
 /// Has a console chat at a cluster that is shared.
-fn chat<
-    J: Naming,
-    B: Backend + Drop,
-    S: Store + Drop,
-    D: Store,
-    I: Source,
-    O: Sink,
-    R: Wait,
->(
+fn chat<J: Naming, B: Backend + Drop, S: Store + Drop, D: Store, I: Source, O: Sink, R: Wait>(
     rt: &R,
     alloc: Global,
     control: &Arc<Control<J, B, S>, Global>,

@@ -118,7 +118,10 @@ fn backend(alloc: Global) -> Wrong<MemBackend>
 }
 
 /// Serves a new cluster over two empty backends.
-pub fn serve_new<R: Threads + Wait + Abort + Copy + Drop + Send + Sync + 'static, P: Port<R> + Send>(
+pub fn serve_new<
+    R: Threads + Wait + Abort + Copy + Drop + Send + Sync + 'static,
+    P: Port<R> + Send,
+>(
     rt: &R,
     alloc: Global,
     setting: Setting,

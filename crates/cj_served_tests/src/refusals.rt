@@ -31,8 +31,14 @@ fn a_log_of_other_bytes_is_refused(rt: HostRuntime) -> Result<(), Fail> {
         threads: 0,
         connections: 1,
     };
-    let Err(Unserved::Log(error, log, dumps)) =
-        serve_new(&rt, alloc, setting, &mut input, &mut output, &mut port)?
+    let Err(Unserved::Log(error, log, dumps)) = serve_new(
+        &rt,
+        alloc,
+        setting,
+        &mut input,
+        &mut output,
+        &mut port,
+    )?
     else {
         panic!(rt; "the log is accepted")
     };
@@ -57,8 +63,14 @@ fn dumps_of_other_bytes_are_refused(rt: HostRuntime) -> Result<(), Fail> {
         threads: 0,
         connections: 1,
     };
-    let Err(Unserved::Dumps(error, log, dumps)) =
-        serve_new(&rt, alloc, setting, &mut input, &mut output, &mut port)?
+    let Err(Unserved::Dumps(error, log, dumps)) = serve_new(
+        &rt,
+        alloc,
+        setting,
+        &mut input,
+        &mut output,
+        &mut port,
+    )?
     else {
         panic!(rt; "the dumps are accepted")
     };

@@ -30,13 +30,22 @@ fn a_console_chats_beside_sessions(rt: HostRuntime) -> Result<(), Fail> {
             threads,
             connections: 2,
         };
-        let Ok((console, accepting)) =
-            serve_new(&rt, alloc, setting, &mut input, &mut output, &mut port)?
+        let Ok((console, accepting)) = serve_new(
+            &rt,
+            alloc,
+            setting,
+            &mut input,
+            &mut output,
+            &mut port,
+        )?
         else {
             panic!(rt; "not served with {threads} threads")
         };
         assert!(rt; console == ConsoleEnd::Quit && accepting == ServeEnd::Done);
-        assert!(rt; status_of_serving(accepting, console) == 0, "{threads} threads");
+        assert!(rt;
+            status_of_serving(accepting, console) == 0,
+            "{threads} threads"
+        );
         assert!(rt; output.content() == b"ok\n".as_slice(), "{threads} threads");
         assert!(rt; has_heard(&rt, &one, REPLIES), "{threads} threads");
         assert!(rt; has_heard(&rt, &other, REPLIES), "{threads} threads");
@@ -59,8 +68,14 @@ fn a_port_that_fails_leaves_the_console(rt: HostRuntime) -> Result<(), Fail> {
         threads: 2,
         connections: 0,
     };
-    let Ok((console, accepting)) =
-        serve_new(&rt, alloc, setting, &mut input, &mut output, &mut port)?
+    let Ok((console, accepting)) = serve_new(
+        &rt,
+        alloc,
+        setting,
+        &mut input,
+        &mut output,
+        &mut port,
+    )?
     else {
         panic!(rt; "not served")
     };

@@ -6,5 +6,5 @@ use Rattle.cj_serve.proofs.serving.Service.next.Goals as goal
 pub start-requires-send-J : goal.start-requires-send-J
 start-requires-send-J g c κs within =
     let b = c.type_bounds in param_send 1 _ (
-      arg_send _ _ _ (connection_send _ _ _ _ _ _ _ _ _ b.send-J b.sync-J b.send-B b.send-S b.send-C b.sync-C b.send-P-In b.send-P-Out)
+    arg_send _ _ _ (connection_send _ _ _ _ _ _ _ _ _ b.send-J b.sync-J b.send-B b.send-S b.send-C b.sync-C b.send-P-In b.send-P-Out)
     )
