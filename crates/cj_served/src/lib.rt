@@ -6,11 +6,12 @@
 //! Promised: the log is opened as by any start, and what the console writes is a chat from the history of the start on
 //! (`ChatsFrom`). The accepting is done exactly if the port gave as many connections as were asked for.
 //! Not promised: that each connection got its session (`cj_serve`).
-//! To change: `serving.rt` has the two threads, `started.rt` the start.
+//! To change: `serving.rt` has the two sides, `side.rt` their threads, `started.rt` the start.
 //! To read: `specs/Servings`. Proofs begin in `proofs/Serving`.
 #![tactic(auto)]
 
 mod serving;
+mod side;
 mod started;
 mod status;
 

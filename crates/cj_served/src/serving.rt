@@ -7,7 +7,9 @@ ghost use Rattle.cj_board.specs.Seats.{front, pass_view};
 ghost use Rattle.cj_console.specs.Answers.{AreRightDumps};
 ghost use Rattle.cj_console.specs.Chats.{ChatsTo};
 ghost use Rattle.cj_console.specs.declared.chat.ConsoleEnd.TheVariants as ends;
+ghost use Rattle.cj_serve.specs.declared.serving.ServeEnd.TheVariants as accepting;
 
+use crate::side::{Side, beside};
 use cj_backend::Backend;
 use cj_console::{ConsoleEnd, console};
 use cj_control::Control;
@@ -18,72 +20,87 @@ use cj_serve::{ServeEnd, serve};
 use cj_shelf::Shelf;
 use std::alloc::Global;
 use std::sync::{Arc, Wait};
-use std::thread::{Threads, join_mut};
+use std::thread::Threads;
 
-/// How connections are accepted: how many, and what the random numbers of their sessions begin with.
-#[derive(Clone, Copy)]
-struct Offer {
+/// A console over its streams.
+#[derive(Drop)]
+struct Chatting<'a, J: Naming, B: Backend, S: Store, D: Store, I, O> {
     alloc: Global,
+    control: &'a Control<J, B, S>,
+    pass: &'a mut Pass<J>,
+    shelf: &'a mut Shelf<D>,
+    input: &'a mut I,
+    output: &'a mut O,
+}
+
+impl<'a, J: Naming, B: Backend + Drop, S: Store + Drop, D: Store, I: Source, O: Sink, R: Wait> Side<
+    R,
+> for Chatting<'a, J, B, S, D, I, O> {
+    type End = ConsoleEnd;
+
+    ghost can_go = { λ s. IsLegal (front s.pass.now.seat) × (B.tells ≡ true → D.tells ≡ true) × AreRightDumps B.tells (front s.pass.now.seat) s.shelf.now.dumps };
+
+    ghost goes = { λ s end t. (t.pass.ghost_name ≡ s.pass.ghost_name) × (t.shelf.ghost_name ≡ s.shelf.ghost_name) × (t.input.ghost_name ≡ s.input.ghost_name) × (t.output.ghost_name ≡ s.output.ghost_name)
+        × ChatsTo (record { tells = B.tells; kept = D.tells; layout = J.layout; held = D.held; faults = D.faults }) (I.left s.input.now) (I.left t.input.now) (O.held s.output.now) (O.held t.output.now) (record { view = pass_view s.pass.now.seat; shelf = s.shelf.now }) end (record { view = pass_view t.pass.now.seat; shelf = t.shelf.now })
+        × CountsFault (end ≡ ends.ReadFault) (I.faults s.input.now) (I.faults t.input.now)
+        × CountsFault (end ≡ ends.WriteFault) (O.faults s.output.now) (O.faults t.output.now) };
+
+    fn go(&mut self, rt: &R) -> ConsoleEnd {
+        console(
+            rt,
+            self.alloc,
+            self.control,
+            self.pass,
+            self.shelf,
+            self.input,
+            self.output,
+        )
+    }
+}
+
+/// The accepting of connections at a port.
+#[derive(Drop)]
+struct Accepting<'a, J: Naming, B: Backend, S: Store, C, P> {
+    alloc: Global,
+    control: &'a Arc<Control<J, B, S>, Global>,
+    pass: &'a mut Pass<J>,
+    port: &'a mut P,
+    spawner: &'a mut Spawner,
+    clock: &'a Arc<C, Global>,
     seed: u64,
     connections: u64,
 }
 
-/// Serves sessions over the connections that are offered.
-fn accept<
+impl<
+    'a,
     J: Naming + Send + Sync + 'static,
     B: Backend + Send + Drop + 'static,
     S: Store + Send + Drop + 'static,
     C: Clock + Send + Sync + Drop + 'static,
     R: Threads + Wait + Copy + Drop + Send + 'static,
     P: Port<R>,
->(
-    rt: &R,
-    offer: Offer,
-    control: &Arc<Control<J, B, S>, Global>,
-    pass: &mut Pass<J>,
-    port: &mut P,
-    spawner: &mut Spawner,
-    clock: &Arc<C, Global>,
-) -> ServeEnd
-    ensures done { (result ≡ ServeEnd.Done) ↔ ((P.accepted port.new ≡ P.accepted port.old + offer.connections) × (offer.connections ≢ 0)) }
-    ensures port { CountsFault (result ≡ ServeEnd.PortFault) (P.faults port.old) (P.faults port.new) }
-{
-    let Offer {
-        alloc,
-        seed,
-        connections,
-    } = offer;
-    serve(
-        rt,
-        alloc,
-        control,
-        pass,
-        port,
-        spawner,
-        clock,
-        seed,
-        connections,
-    )
-}
+> Side<R> for Accepting<'a, J, B, S, C, P> {
+    type End = ServeEnd;
 
-/// Has a console chat at a cluster that is shared.
-fn chat<J: Naming, B: Backend + Drop, S: Store + Drop, D: Store, I: Source, O: Sink, R: Wait>(
-    rt: &R,
-    alloc: Global,
-    control: &Arc<Control<J, B, S>, Global>,
-    pass: &mut Pass<J>,
-    shelf: &mut Shelf<D>,
-    input: &mut I,
-    output: &mut O,
-) -> ConsoleEnd
-    requires legal { IsLegal (front pass.old.seat) }
-    requires kept { B.tells ≡ true → D.tells ≡ true }
-    requires dumps { AreRightDumps B.tells (front pass.old.seat) shelf.old.dumps }
-    ensures chats { ChatsTo (record { tells = B.tells; kept = D.tells; layout = J.layout; held = D.held; faults = D.faults }) (I.left input.old) (I.left input.new) (O.held output.old) (O.held output.new) (record { view = pass_view pass.old.seat; shelf = shelf.old }) result (record { view = pass_view pass.new.seat; shelf = shelf.new }) }
-    ensures input { CountsFault (result ≡ ends.ReadFault) (I.faults input.old) (I.faults input.new) }
-    ensures output { CountsFault (result ≡ ends.WriteFault) (O.faults output.old) (O.faults output.new) }
-{
-    console(rt, alloc, &**control, pass, shelf, input, output)
+    ghost can_go = { λ s. ⊤ };
+
+    ghost goes = { λ s end t. (t.port.ghost_name ≡ s.port.ghost_name)
+        × ((end ≡ accepting.Done) ↔ ((P.accepted t.port.now ≡ P.accepted s.port.now + s.connections) × (s.connections ≢ 0)))
+        × CountsFault (end ≡ accepting.PortFault) (P.faults s.port.now) (P.faults t.port.now) };
+
+    fn go(&mut self, rt: &R) -> ServeEnd {
+        serve(
+            rt,
+            self.alloc,
+            self.control,
+            self.pass,
+            self.port,
+            self.spawner,
+            self.clock,
+            self.seed,
+            self.connections,
+        )
+    }
 }
 
 /// Has a console chat on the streams, and meanwhile serves sessions over so many connections of the port, 0 for any
@@ -97,7 +114,7 @@ pub(crate) fn chat_and_serve<
     O: Sink + Send,
     C: Clock + Send + Sync + Drop + 'static,
     R: Threads + Wait + Copy + Drop + Send + Sync + 'static,
-    P: Port<R> + Send,
+    P: Port<R>,
 >(
     rt: &R,
     alloc: Global,
@@ -118,66 +135,27 @@ pub(crate) fn chat_and_serve<
     ensures chats { ChatsTo (record { tells = B.tells; kept = D.tells; layout = J.layout; held = D.held; faults = D.faults }) (I.left input.old) (I.left input.new) (O.held output.old) (O.held output.new) (record { view = pass_view pass.old.seat; shelf = shelf.old }) result.0 (record { view = pass_view pass.new.seat; shelf = shelf.new }) }
     ensures input { CountsFault (result.0 ≡ ends.ReadFault) (I.faults input.old) (I.faults input.new) }
     ensures output { CountsFault (result.0 ≡ ends.WriteFault) (O.faults output.old) (O.faults output.new) }
-    ensures done { (result.1 ≡ ServeEnd.Done) ↔ ((P.accepted port.new ≡ P.accepted port.old + connections) × (connections ≢ 0)) }
-    ensures port { CountsFault (result.1 ≡ ServeEnd.PortFault) (P.faults port.old) (P.faults port.new) }
+    ensures done { (result.1 ≡ accepting.Done) ↔ ((P.accepted port.new ≡ P.accepted port.old + connections) × (connections ≢ 0)) }
+    ensures port { CountsFault (result.1 ≡ accepting.PortFault) (P.faults port.old) (P.faults port.new) }
 {
-    let mut accepting = control.split(pass);
-    let offer = Offer {
+    let mut split = control.split(pass);
+    let mut accepting = Accepting {
         alloc,
+        control,
+        pass: &mut split,
+        port,
+        spawner,
+        clock,
         seed,
         connections,
     };
-    join_mut(
-        rt,
-        &mut || chat(rt, alloc, control, pass, shelf, input, output),
-        &mut || accept(rt, offer, control, &mut accepting, port, spawner, clock),
-    )
-}
-
-/// Has a console chat on the streams, and meanwhile serves sessions over so many connections of the port, 0 for any
-/// number. Returns how both ended, once they have. Where no thread can be made, the console comes after the accepting.
-pub(crate) fn chat_and_serve_b<
-    J: Naming + Send + Sync + 'static,
-    B: Backend + Send + Drop + 'static,
-    S: Store + Send + Drop + 'static,
-    D: Store + Send,
-    I: Source + Send,
-    O: Sink + Send,
-    C: Clock + Send + Sync + Drop + 'static,
-    R: Threads + Wait + Copy + Drop + Send + Sync + 'static,
-    P: Port<R> + Send,
->(
-    rt: &R,
-    alloc: Global,
-    control: &Arc<Control<J, B, S>, Global>,
-    pass: &mut Pass<J>,
-    shelf: &mut Shelf<D>,
-    input: &mut I,
-    output: &mut O,
-    clock: &Arc<C, Global>,
-    port: &mut P,
-    spawner: &mut Spawner,
-    seed: u64,
-    connections: u64,
-) -> (ConsoleEnd, ServeEnd)
-    requires legal { IsLegal (front pass.old.seat) }
-    requires kept { B.tells ≡ true → D.tells ≡ true }
-    requires dumps { AreRightDumps B.tells (front pass.old.seat) shelf.old.dumps }
-    ensures chats { ChatsTo (record { tells = B.tells; kept = D.tells; layout = J.layout; held = D.held; faults = D.faults }) (I.left input.old) (I.left input.new) (O.held output.old) (O.held output.new) (record { view = pass_view pass.old.seat; shelf = shelf.old }) result.0 (record { view = pass_view pass.new.seat; shelf = shelf.new }) }
-    ensures input { CountsFault (result.0 ≡ ends.ReadFault) (I.faults input.old) (I.faults input.new) }
-    ensures output { CountsFault (result.0 ≡ ends.WriteFault) (O.faults output.old) (O.faults output.new) }
-    ensures done { (result.1 ≡ ServeEnd.Done) ↔ ((P.accepted port.new ≡ P.accepted port.old + connections) × (connections ≢ 0)) }
-    ensures port { CountsFault (result.1 ≡ ServeEnd.PortFault) (P.faults port.old) (P.faults port.new) }
-{
-    let mut accepting = control.split(pass);
-    let offer = Offer {
+    let mut chatting = Chatting {
         alloc,
-        seed,
-        connections,
+        control: &**control,
+        pass,
+        shelf,
+        input,
+        output,
     };
-    join_mut(
-        rt,
-        &mut || console(rt, alloc, &**control, pass, shelf, input, output),
-        &mut || accept(rt, offer, control, &mut accepting, port, spawner, clock),
-    )
+    beside(rt, &mut chatting, &mut accepting)
 }
