@@ -2,7 +2,7 @@
 
 use crate::clusters::serve_at_new;
 use crate::connections::{connection, has_heard, meeting, silence};
-use crate::frames::{LAST_SESSION, REPLIES, SENT_T, SENT_U, SESSIONS_FULL};
+use crate::frames::{BROKEN_OFF, DONE, LAST_SESSION, REPLIES, SENT_T, SENT_U, SESSIONS_FULL};
 use cj_port::MemPort;
 use cj_serve::ServeEnd;
 use std::process::Abort;
@@ -24,6 +24,25 @@ fn each_client_is_answered(rt: HostRuntime) -> Result<(), Fail> {
         let end = serve_at_new(&rt, alloc, Vec::new(alloc), &mut port, threads, 2)?;
         assert!(rt; end == ServeEnd::Done, "{threads} threads");
         assert!(rt; has_heard(&rt, &one, REPLIES), "{threads} threads");
+        assert!(rt; has_heard(&rt, &other, REPLIES), "{threads} threads");
+    }
+    Ok(())
+}
+
+/// It hears the replies to what it sent whole. The table that it named is not made, so the other client can make it.
+#[test]
+fn a_client_that_breaks_off_disturbs_no_other(rt: HostRuntime) -> Result<(), Fail> {
+    let alloc = rt.alloc();
+    for threads in [0, 1, 2] {
+        let (one, other) = (silence(alloc)?, silence(alloc)?);
+        let connections = vec![in alloc;
+            connection(alloc, BROKEN_OFF, &one)?,
+            connection(alloc, SENT_U, &other)?,
+        ]?;
+        let mut port = MemPort::new(connections, Vec::new(alloc));
+        let end = serve_at_new(&rt, alloc, Vec::new(alloc), &mut port, threads, 2)?;
+        assert!(rt; end == ServeEnd::Done, "{threads} threads");
+        assert!(rt; has_heard(&rt, &one, DONE), "{threads} threads");
         assert!(rt; has_heard(&rt, &other, REPLIES), "{threads} threads");
     }
     Ok(())
