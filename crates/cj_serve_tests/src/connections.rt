@@ -99,7 +99,7 @@ impl Source for Meeting {
 }
 
 /// The connection of a client that sends these bytes once another client is served, too.
-pub fn meeting(
+pub fn meets(
     alloc: Global,
     sent: &[u8],
     heard: &Heard,

@@ -1,7 +1,7 @@
 //! Connections that are served, by threads and without.
 
 use crate::clusters::serve_at_new;
-use crate::connections::{connection, has_heard, meeting, silence};
+use crate::connections::{connection, has_heard, meets, silence};
 use crate::frames::{BROKEN_OFF, DONE, LAST_SESSION, REPLIES, SENT_T, SENT_U, SESSIONS_FULL};
 use cj_port::MemPort;
 use cj_serve::ServeEnd;
@@ -57,8 +57,8 @@ fn connections_are_served_beside_each_other(rt: HostRuntime) -> Result<(), Fail>
     let right = Arc::new(alloc, AtomicU64::new(0))?;
     let missed = Arc::new(alloc, AtomicU64::new(0))?;
     let connections = vec![in alloc;
-        meeting(alloc, SENT_T, &one, &left, &right, &missed)?,
-        meeting(alloc, SENT_U, &other, &right, &left, &missed)?,
+        meets(alloc, SENT_T, &one, &left, &right, &missed)?,
+        meets(alloc, SENT_U, &other, &right, &left, &missed)?,
     ]?;
     let mut port = MemPort::new(connections, Vec::new(alloc));
     let end = serve_at_new(&rt, alloc, Vec::new(alloc), &mut port, 2, 2)?;
