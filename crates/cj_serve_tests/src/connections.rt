@@ -35,7 +35,7 @@ impl Sink for Ear {
 
 /// A client that heard nothing yet.
 pub fn silence(alloc: Global) -> Result<Heard, AllocError> {
-    Arc::new(alloc, Mutex::new(Vec::new(alloc)))
+    Ok(Arc::new(alloc, Mutex::new(Vec::new(alloc)))?)
 }
 
 /// Whether a client heard just these bytes.
@@ -99,7 +99,7 @@ impl Source for Meeting {
 }
 
 /// The connection of a client that sends these bytes once another client is served, too.
-pub fn meeting(
+pub fn meets(
     alloc: Global,
     sent: &[u8],
     heard: &Heard,

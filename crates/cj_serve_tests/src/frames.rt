@@ -12,7 +12,14 @@ pub const SENT_U: &[u8] = b"\x00\x00\x00\x0e\x01\x00\x03ann\x00\x06secret\
 \x00\x00\x00\x28\x02INSERT INTO u VALUES (1, 'a'), (2, 'b')\
 \x00\x00\x00\x20\x02SELECT * FROM u ORDER BY k DESC";
 
-/// What the client of either is sent: done, done, two rows changed, and the rows (2, 'b') and (1, 'a').
+/// A Login, and a statement that breaks off.
+pub const BROKEN_OFF: &[u8] = b"\x00\x00\x00\x0e\x01\x00\x03ann\x00\x06secret\
+\x00\x00\x00\x2f\x02CREATE TABLE u (k INTEGER";
+
+/// What the client of `BROKEN_OFF` is sent: done.
+pub const DONE: &[u8] = b"\x00\x00\x00\x09\x81\x00\x00\x00\x00\x00\x00\x00\x00";
+
+/// What the client of `SENT_T` or `SENT_U` is sent: done, done, two rows changed, and the rows (2, 'b') and (1, 'a').
 pub const REPLIES: &[u8] = b"\x00\x00\x00\x09\x81\x00\x00\x00\x00\x00\x00\x00\x00\
 \x00\x00\x00\x09\x81\x00\x00\x00\x00\x00\x00\x00\x00\
 \x00\x00\x00\x09\x81\x00\x00\x00\x00\x00\x00\x00\x02\

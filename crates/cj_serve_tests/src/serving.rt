@@ -1,8 +1,8 @@
 //! Connections that are served, by threads and without.
 
 use crate::clusters::serve_at_new;
-use crate::connections::{connection, has_heard, meeting, silence};
-use crate::frames::{LAST_SESSION, REPLIES, SENT_T, SENT_U, SESSIONS_FULL};
+use crate::connections::{connection, has_heard, meets, silence};
+use crate::frames::{BROKEN_OFF, DONE, LAST_SESSION, REPLIES, SENT_T, SENT_U, SESSIONS_FULL};
 use cj_port::MemPort;
 use cj_serve::ServeEnd;
 use std::process::Abort;
@@ -29,6 +29,25 @@ fn each_client_is_answered(rt: HostRuntime) -> Result<(), Fail> {
     Ok(())
 }
 
+/// It hears the replies to what it sent whole. The table that it named is not made, so the other client can make it.
+#[test]
+fn a_client_that_breaks_off_disturbs_no_other(rt: HostRuntime) -> Result<(), Fail> {
+    let alloc = rt.alloc();
+    for threads in [0, 1, 2] {
+        let (one, other) = (silence(alloc)?, silence(alloc)?);
+        let connections = vec![in alloc;
+            connection(alloc, BROKEN_OFF, &one)?,
+            connection(alloc, SENT_U, &other)?,
+        ]?;
+        let mut port = MemPort::new(connections, Vec::new(alloc));
+        let end = serve_at_new(&rt, alloc, Vec::new(alloc), &mut port, threads, 2)?;
+        assert!(rt; end == ServeEnd::Done, "{threads} threads");
+        assert!(rt; has_heard(&rt, &one, DONE), "{threads} threads");
+        assert!(rt; has_heard(&rt, &other, REPLIES), "{threads} threads");
+    }
+    Ok(())
+}
+
 /// Each source gives bytes only once the other was asked for some.
 #[test]
 fn connections_are_served_beside_each_other(rt: HostRuntime) -> Result<(), Fail> {
@@ -38,8 +57,8 @@ fn connections_are_served_beside_each_other(rt: HostRuntime) -> Result<(), Fail>
     let right = Arc::new(alloc, AtomicU64::new(0))?;
     let missed = Arc::new(alloc, AtomicU64::new(0))?;
     let connections = vec![in alloc;
-        meeting(alloc, SENT_T, &one, &left, &right, &missed)?,
-        meeting(alloc, SENT_U, &other, &right, &left, &missed)?,
+        meets(alloc, SENT_T, &one, &left, &right, &missed)?,
+        meets(alloc, SENT_U, &other, &right, &left, &missed)?,
     ]?;
     let mut port = MemPort::new(connections, Vec::new(alloc));
     let end = serve_at_new(&rt, alloc, Vec::new(alloc), &mut port, 2, 2)?;
