@@ -1,2 +1,3 @@
+mod Configured
 mod NewBackends
 mod ServingWords

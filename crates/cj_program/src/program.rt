@@ -188,11 +188,17 @@ pub fn run<
     // whole: from the clauses above follows what a command comes to at any other status but 1 (`laws`).
     ensures opens { S.tells ≡ true → (command : Command) → Says (map string_bytes words.now) command → (items : List LogItem) → KeepsItems (S.held log) items → GoesOnFrom command items → (result.status ≢ 8) × (result.status ≢ 12) }
 {
-    if address_word(words).is_some() {
-        return serve_command(
+    match address_word(words) {
+        Some(_) => serve_command(
             rt, alloc, conf, log, dumps, input, output, errors, clock, port, spawner,
-        );
+        ),
+        None => {
+            let ended = cj_top::run(alloc, words, conf, log, input, output, errors, &**clock);
+            Ended {
+                status: ended.status,
+                log: Some(ended.log),
+                dumps: Some(dumps),
+            }
+        }
     }
-    let ended = cj_top::run(alloc, words, conf, log, input, output, errors, &**clock);
-    unserved(ended.status, ended.log, dumps)
 }

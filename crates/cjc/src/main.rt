@@ -60,7 +60,7 @@ struct Stores<R> {
 
 /// Opens the configuration, the recovery log and the dumps, or returns `None` if memory runs out. Where the words are no
 /// command `run` uses none of them.
-fn stores<R: Files<File = File> + Copy>(
+fn open_stores<R: Files<File = File> + Copy>(
     alloc: Global,
     rt: R,
     words: &[String],
@@ -116,7 +116,7 @@ fn main(rt: HostRuntime) -> ExitCode {
             log,
             dumps,
         },
-    ) = stores(rt.alloc(), rt, &words)
+    ) = open_stores(rt.alloc(), rt, &words)
     else {
         return ExitCode::from(1);
     };

@@ -87,23 +87,23 @@ pub returns-in-Ok-None-clause-opens : goal.returns-in-Ok-None-clause-opens
 returns-in-Ok-None-clause-opens g c tells command says =
     absurd (asks_nothing (map string_bytes c.args.words.now) c.in-Ok-None.field-0 c.in-Ok-None.ensures.found c.in-Ok-None.field-0-is (asked.Command command) says)
 
-pub returns-in-Err-clause-other : goal.returns-in-Err-clause-other
-returns-in-Err-clause-other g c none = absurd (work_asked (map string_bytes c.args.words.now) c.in-Err.ensures.memory none)
+pub returns-clause-other : goal.returns-clause-other
+returns-clause-other g c none = absurd (work_asked (map string_bytes c.args.words.now) c.in-Err.ensures.memory none)
 
 pub returns-in-Ok-Some-Serve-clause-runs : goal.returns-in-Ok-Some-Serve-clause-runs
 returns-in-Ok-Some-Serve-clause-runs g c command says =
     let r = c.in-Ok-Some-Serve in
-    let is : r.field-0 ≡ Some (asked.Serve r.conf r.address) = cc (r.field-0-is, r.field-0-0-is) in
-    absurd (serving_is_no_command (map string_bytes c.args.words.now) r.field-0 r.ensures.found r.conf r.address command is says)
+    let is : r.field-0 ≡ Some (asked.Serve r.field-0-0-0 r.field-0-0-1) = cc (r.field-0-is, r.field-0-0-is) in
+    absurd (serving_is_no_command (map string_bytes c.args.words.now) r.field-0 r.ensures.found r.field-0-0-0 r.field-0-0-1 command is says)
 
 pub returns-in-Ok-Some-Serve-clause-text : goal.returns-in-Ok-Some-Serve-clause-text
 returns-in-Ok-Some-Serve-clause-text g c asks =
     let r = c.in-Ok-Some-Serve in
-    let is : r.field-0 ≡ Some (asked.Serve r.conf r.address) = cc (r.field-0-is, r.field-0-0-is) in
-    absurd (serving_is_no_text (map string_bytes c.args.words.now) r.field-0 r.ensures.found r.conf r.address is asks)
+    let is : r.field-0 ≡ Some (asked.Serve r.field-0-0-0 r.field-0-0-1) = cc (r.field-0-is, r.field-0-0-is) in
+    absurd (serving_is_no_text (map string_bytes c.args.words.now) r.field-0 r.ensures.found r.field-0-0-0 r.field-0-0-1 is asks)
 
 pub returns-in-Ok-Some-Serve-clause-opens : goal.returns-in-Ok-Some-Serve-clause-opens
 returns-in-Ok-Some-Serve-clause-opens g c tells command says =
     let r = c.in-Ok-Some-Serve in
-    let is : r.field-0 ≡ Some (asked.Serve r.conf r.address) = cc (r.field-0-is, r.field-0-0-is) in
-    absurd (serving_is_no_command (map string_bytes c.args.words.now) r.field-0 r.ensures.found r.conf r.address command is says)
+    let is : r.field-0 ≡ Some (asked.Serve r.field-0-0-0 r.field-0-0-1) = cc (r.field-0-is, r.field-0-0-is) in
+    absurd (serving_is_no_command (map string_bytes c.args.words.now) r.field-0 r.ensures.found r.field-0-0-0 r.field-0-0-1 command is says)
