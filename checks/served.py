@@ -93,6 +93,14 @@ class Connection:
     def log_in(self):
         self.expect("LOGIN ann secret", ["done 0"])
 
+    def end(self):
+        """Says that no more requests come; replies still do."""
+        try:
+            self.socket.shutdown(socket.SHUT_WR)
+        except OSError:
+            # The server has ended the connection already.
+            pass
+
     def close(self):
         self.socket.close()
 
@@ -328,23 +336,25 @@ class Console:
 
 
 class Serving:
-    """A server that listens at a port of its own, and its console. It is killed at the end of a `with` at the latest."""
+    """A server that serves at a port of its own, and its console. It is killed at the end of a `with` at the latest."""
 
     def __init__(self, program, conf):
         self.killed = threading.Event()
         for _ in range(3):
             self.port = free_port()
             self.run = start([program, "serve", conf, f"127.0.0.1:{self.port}"])
-            if self.listens():
+            if self.serves():
                 break
         self.console = Console(self.run)
 
-    def listens(self):
-        """Waits until the server listens; False if it ended, as where another program has taken the port."""
+    def serves(self):
+        """Waits until the server serves; False if it ended, as where another program has taken the port. It listens before it reads its log."""
         end = time.monotonic() + PATIENCE
         while time.monotonic() < end and self.run.poll() is None:
             try:
-                Connection(self.port).close()
+                at = Connection(self.port)
+                at.log_in()
+                at.close()
                 return True
             except Gone:
                 time.sleep(0.01)
