@@ -23,8 +23,6 @@ from common import PATIENCE, Failed, expect, frames, start
 CLIENTS, ACCOUNTS = 8, 16
 # A client's keys begin at its number times this, and it keeps at most so many rows.
 STRIDE, KEPT = 10_000_000, 200
-# All servings together put at most so many dumps onto the shelf, each with all tables.
-BACKUPS = 100
 TABLES = ["CREATE TABLE w (k INTEGER PRIMARY KEY, v INTEGER)", "CREATE TABLE u (k INTEGER PRIMARY KEY, v INTEGER)"]
 ENTRY = re.compile(r"\d+ session=\d+ tx=(\d+) user=\S* (.*)")
 ROW = re.compile(r"(?:(INSERT) INTO w VALUES \((\d+), 1\)|DELETE FROM w WHERE k = (\d+))")
@@ -371,6 +369,12 @@ class Serving:
         if self.run.poll() is not None:
             raise Failed(f"the server ended with {self.run.returncode}: {self.run.stderr.read().decode()[-2000:]}")
 
+    def terminate(self):
+        """Ends it by SIGTERM, and returns its status."""
+        self.killed.set()
+        self.run.terminate()
+        return self.run.wait(timeout=PATIENCE)
+
     def kill(self):
         self.killed.set()
         self.run.send_signal(signal.SIGKILL)
@@ -412,7 +416,7 @@ def administer(serving, draws, until, name, told):
         if time.monotonic() >= until:
             return
         b = draws.choice(("b0", "b1"))
-        if number % 3 == 0 and told["backups"] < BACKUPS:
+        if number % 3 == 0:
             console.match(f"backup {b} {name}_{number}", r"ok \d+")
             told["backups"] += 1
         else:
