@@ -22,7 +22,7 @@ from common import PATIENCE, Failed, expect, frames, start
 
 CLIENTS, ACCOUNTS = 8, 16
 # A client's keys begin at its number times this, and it keeps at most so many rows.
-STRIDE, KEPT = 10_000_000, 200
+STRIDE, KEPT = 10_000_000, 20
 TABLES = ["CREATE TABLE w (k INTEGER PRIMARY KEY, v INTEGER)", "CREATE TABLE u (k INTEGER PRIMARY KEY, v INTEGER)"]
 ENTRY = re.compile(r"\d+ session=\d+ tx=(\d+) user=\S* (.*)")
 ROW = re.compile(r"(?:(INSERT) INTO w VALUES \((\d+), 1\)|DELETE FROM w WHERE k = (\d+))")
@@ -152,9 +152,10 @@ class Client(threading.Thread):
         self.rows.append(self.key)
 
     def count(self):
-        name, number = self.ask("SELECT COUNT(*) FROM w")
-        expect(f"client {self.number}, what is counted", name, "1 rows of count")
-        self.steps.append(("count", int(number)))
+        """Reads how many rows there are and the sum of their keys, which one place in the log has, or few."""
+        name, counted = self.ask("SELECT COUNT(*), SUM(k) FROM w")
+        expect(f"client {self.number}, what is counted", name, "1 rows of count, sum")
+        self.steps.append(("count", counted.strip()))
 
     def read(self):
         """Reads a row of its own."""
@@ -201,8 +202,8 @@ class Log:
     """What the log's entries make of the rows and the accounts, and what its updates are answered."""
 
     def __init__(self, program, conf):
-        # The rows now; where each update of rows stands; how many rows there are after each of them, and after which of them there are so many.
-        self.rows, self.places, self.counts, self.at_count = set(), {}, [0], collections.defaultdict(list, {0: [0]})
+        # The rows now and the sum of their keys; the place of each update of rows, from 1; the places behind which something is counted.
+        self.rows, self.sum, self.places, self.counted = set(), 0, {}, collections.defaultdict(list, {"0, 0": [0]})
         # The accounts now; the transaction that has changed some, 0 for none, and how; the replies to moves; the transfers that were committed.
         self.accounts, self.holder, self.draft, self.replies, self.committed = [0] * ACCOUNTS, 0, [], {}, set()
         self.entries = 0
@@ -225,9 +226,9 @@ class Log:
             raise Failed(f"the log has the update {update} twice")
         sign, key = update
         (self.rows.add if sign == "+" else self.rows.remove)(key)
-        self.places[update] = len(self.counts)
-        self.at_count[len(self.rows)].append(len(self.counts))
-        self.counts.append(len(self.rows))
+        self.sum += key if sign == "+" else -key
+        self.places[update] = len(self.places) + 1
+        self.counted[f"{len(self.rows)}, {self.sum}"].append(len(self.places))
 
     def move(self, tx, text):
         self.holder = self.holder or tx
@@ -250,9 +251,9 @@ class Log:
         later = itertools.islice(self.places.items(), before, None)
         return [update for update, _ in later if update[1] // STRIDE == number]
 
-    def place_of_count(self, count, low):
-        """The first place from `low` on at which there are so many rows, or None."""
-        places = self.at_count.get(count, [])
+    def place_of(self, counted, low):
+        """The first place from `low` on behind which this is counted, or None."""
+        places = self.counted.get(counted, [])
         at = bisect.bisect_left(places, low)
         return places[at] if at < len(places) else None
 
@@ -271,9 +272,9 @@ def explain(client, log, before):
             low = own
         else:
             counts += 1
-            place = log.place_of_count(value, low)
+            place = log.place_of(value, low)
             if place is None:
-                raise Failed(f"client {client.number} counted {value} rows, and from place {low} on there are never so many")
+                raise Failed(f"client {client.number} counted (rows, sum of keys) {value}, and from place {low} on that is never so")
             low = place
     answered = [value for what, value in client.steps if what == "update"]
     logged = log.updates_of(client.number, before)
