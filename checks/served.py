@@ -18,8 +18,10 @@ import threading
 import time
 
 sys.dont_write_bytecode = True
-from common import PATIENCE, Failed, expect, frames, start
+from common import Failed, expect, frames, start
 
+# Each answer and each end has to come within so many seconds, on a machine that is busy with proofs too.
+PATIENCE = 60
 CLIENTS, ACCOUNTS = 8, 16
 # A client's keys begin at its number times this, and it keeps at most so many rows.
 STRIDE, KEPT = 10_000_000, 20
@@ -111,6 +113,9 @@ class Connection:
 class Client(threading.Thread):
     """An honest client, which works until the server is killed or it is told to stop. What it is answered is looked at here, or kept for `explain`."""
 
+    # What was asked last.
+    last = ""
+
     def __init__(self, number, serving, draws, log, first):
         super().__init__(daemon=True)
         self.number, self.serving, self.draws, self.key = number, serving, draws, first
@@ -125,9 +130,11 @@ class Client(threading.Thread):
 
     def ask(self, line):
         self.told["requests"] += 1
+        self.last = line
         return self.at.ask(line)
 
     def connect(self):
+        self.last = "a connection"
         self.at = Connection(self.serving.port)
         expect(f"client {self.number}, LOGIN", self.ask("LOGIN ann secret"), ["done 0"])
         self.steps.append(("connection", None))
@@ -193,9 +200,9 @@ class Client(threading.Thread):
             self.at.close()
         except Gone as gone:
             if not self.serving.killed.is_set():
-                self.error = Failed(f"client {self.number}: {gone}, and the server was not killed")
+                self.error = Failed(f"client {self.number}, {self.last}: {gone}, and the server was not killed")
         except (Failed, OSError, ValueError, IndexError, struct.error) as error:
-            self.error = error
+            self.error = Failed(f"client {self.number}, {self.last}: {error}")
 
 
 class Log:
@@ -207,7 +214,7 @@ class Log:
         # The accounts now; the transaction that has changed some, 0 for none, and how; the replies to moves; the transfers that were committed.
         self.accounts, self.holder, self.draft, self.replies, self.committed = [0] * ACCOUNTS, 0, [], {}, set()
         self.entries = 0
-        listed = subprocess.run([program, "log", conf], capture_output=True, text=True, timeout=PATIENCE * 3)
+        listed = subprocess.run([program, "log", conf], capture_output=True, text=True, timeout=PATIENCE)
         expect("the listing of the log", (listed.returncode, listed.stderr), (0, ""))
         for tx, text in ENTRY.findall(listed.stdout):
             self.take(int(tx), text)
