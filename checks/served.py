@@ -34,7 +34,7 @@ ASIDES = [("show cache", r"hits=\d+ misses=\d+"), ("abort 1", "refused NotOrphan
           ("enable b0", "refused AlreadyEnabled"), ("shew cache", "refused Command"), ("", "refused Command")]
 
 
-class Gone(Exception):
+class Gone(Failed):
     """The server is gone, or the connection."""
 
 
@@ -48,7 +48,7 @@ class Connection:
         self.socket.settimeout(PATIENCE)
         try:
             self.socket.connect(("127.0.0.1", port))
-        except (ConnectionError, TimeoutError) as error:
+        except ConnectionError as error:
             raise Gone("no connection") from error
         self.socket.setsockopt(socket.IPPROTO_TCP, socket.TCP_NODELAY, 1)
 
@@ -369,8 +369,13 @@ class Serving:
     def __enter__(self):
         return self
 
-    def __exit__(self, *_):
-        self.kill()
+    def __exit__(self, kind, *_):
+        try:
+            if kind is not None and issubclass(kind, Failed) and not self.killed.is_set():
+                # Of what was found wrong this is the cause.
+                self.look()
+        finally:
+            self.kill()
 
     def look(self):
         """Looks whether the server runs."""
