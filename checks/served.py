@@ -22,6 +22,8 @@ from common import Failed, expect, frames, start
 
 # Each answer and each end has to come within so many seconds, on a machine that is busy with proofs too.
 PATIENCE = 60
+# A start has to read its log within so many.
+START = 300
 CLIENTS, ACCOUNTS = 8, 16
 # A client's keys begin at its number times this, and it keeps at most so many rows.
 STRIDE, KEPT = 10_000_000, 20
@@ -41,11 +43,11 @@ class Gone(Failed):
 class Connection:
     """A client's connection, request by request."""
 
-    def __init__(self, port, receive_buffer=None):
+    def __init__(self, port, receive_buffer=None, patience=PATIENCE):
         self.socket = socket.socket()
         if receive_buffer:
             self.socket.setsockopt(socket.SOL_SOCKET, socket.SO_RCVBUF, receive_buffer)
-        self.socket.settimeout(PATIENCE)
+        self.socket.settimeout(patience)
         try:
             self.socket.connect(("127.0.0.1", port))
         except ConnectionError as error:
@@ -65,7 +67,7 @@ class Connection:
         try:
             return self.socket.recv(most)
         except TimeoutError:
-            raise Failed(f"no reply within {PATIENCE} seconds") from None
+            raise Failed(f"no reply within {self.socket.gettimeout():.0f} seconds") from None
         except ConnectionError as error:
             raise Gone("the connection broke before a reply") from error
 
@@ -345,29 +347,32 @@ class Serving:
     """A server that serves at a port of its own, and its console. It is killed at the end of a `with` at the latest."""
 
     def __init__(self, program, conf):
-        self.killed = threading.Event()
+        self.program, self.conf, self.killed = program, conf, threading.Event()
+
+    def __enter__(self):
         for _ in range(3):
             self.port = free_port()
-            self.run = start([program, "serve", conf, f"127.0.0.1:{self.port}"])
-            if self.serves():
-                break
-        self.console = Console(self.run)
+            self.run = start([self.program, "serve", self.conf, f"127.0.0.1:{self.port}"])
+            try:
+                if self.serves():
+                    self.console = Console(self.run)
+                    return self
+            except BaseException:
+                self.kill()
+                raise
+        self.look()
 
     def serves(self):
         """Waits until the server serves; False if it ended, as where another program has taken the port. It listens before it reads its log."""
-        end = time.monotonic() + PATIENCE
-        while time.monotonic() < end and self.run.poll() is None:
+        while self.run.poll() is None:
             try:
-                at = Connection(self.port)
+                at = Connection(self.port, patience=START)
                 at.log_in()
                 at.close()
                 return True
             except Gone:
                 time.sleep(0.01)
         return False
-
-    def __enter__(self):
-        return self
 
     def __exit__(self, kind, *_):
         try:
