@@ -459,6 +459,14 @@ def work(serving, draws, seconds, name, told):
         raise Failed("the console has ended, and the server runs") from None
 
 
+def strike(serving, draws, name):
+    """Kills the server as its console carries out a command, or is about to. A dump gets this name."""
+    serving.look()
+    serving.console.send(draws.choice((f"backup b0 {name}", f"backup b1 {name}", "disable b0", "audit")))
+    time.sleep(draws.uniform(0, 0.05))
+    serving.kill()
+
+
 def make_clients(serving, draws, log, firsts):
     """Makes the clients of a serving and lets them begin. `firsts` has the last key that each has used."""
     clients = [Client(number, serving, random_of(draws), log, firsts.get(number, number * STRIDE)) for number in range(1, CLIENTS + 1)]
