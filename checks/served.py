@@ -28,7 +28,7 @@ CLIENTS, ACCOUNTS = 8, 16
 # A client's keys begin at its number times this, and it keeps at most so many rows.
 STRIDE, KEPT = 10_000_000, 20
 TABLES = ["CREATE TABLE w (k INTEGER PRIMARY KEY, v INTEGER)", "CREATE TABLE u (k INTEGER PRIMARY KEY, v INTEGER)"]
-ENTRY = re.compile(r"\d+ session=\d+ tx=(\d+) user=\S* (.*)")
+ENTRY = re.compile(r"^\d+ session=\d+ tx=(\d+) user=\S* (.*)$", re.MULTILINE)
 ROW = re.compile(r"(?:(INSERT) INTO w VALUES \((\d+), 1\)|DELETE FROM w WHERE k = (\d+))")
 MOVE = re.compile(r"UPDATE u SET v = v ([+-]) 1 WHERE k = (\d+) AND v <> (\d+)")
 # What else the console is asked, and the form of the answer.
