@@ -15,6 +15,10 @@ use std::time::{Clock, Duration};
 
 /// How long the port waits after an error that passes by itself, in milliseconds.
 const PAUSE: u64 = 10;
+/// For so many seconds a client may send nothing: eight hours, as of MySQL. Then its connection is given up.
+const SILENCE: u64 = 28_800;
+/// For so many seconds a client may take nothing of a reply. Then its connection is given up.
+const STANDSTILL: u64 = 300;
 
 // Numbers of Linux for errors that have no kind of their own.
 /// All files that the system may have open are.
@@ -30,7 +34,8 @@ const HOST_IS_DOWN: i32 = 112;
 
 /// A port that listens for TCP, and tells nothing of bytes.
 ///
-/// It gives each client once, and small replies leave at once (`TCP_NODELAY`). An error of the listener that passes by
+/// It gives each client once, and small replies leave at once (`TCP_NODELAY`). A read fails once a client has sent nothing
+/// for eight hours, and a write once it has taken nothing for five minutes. An error of the listener that passes by
 /// itself is no fault: the port waits for a moment and listens again. Any other error counts as a fault.
 #[derive(Drop)]
 pub struct TcpPort {
@@ -68,6 +73,8 @@ fn next_sides(alloc: Global, listener: &TcpListener) -> io::Result<(Side, Side)>
     let (stream, _) = listener.accept()?;
     // A client that went meanwhile is found out by the first read.
     drop(stream.set_nodelay(true));
+    drop(stream.set_read_timeout(Some(Duration::from_secs(SILENCE))));
+    drop(stream.set_write_timeout(Some(Duration::from_secs(STANDSTILL))));
     Ok(Side::both(alloc, stream)?)
 }
 

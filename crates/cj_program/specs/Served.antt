@@ -11,8 +11,8 @@ use Rattle.cj_shelf.specs.declared.error.ShelfError.{ShelfError}
 use Rattle.cj_shelf.specs.declared.error.ShelfError.TheVariants as shelf_errors
 use Rattle.cj_state.specs.Worlds.{WorldState}
 use Rattle.cj_console.specs.Answers.{Served}
-use Rattle.cj_console.specs.declared.console.ConsoleEnd.{ConsoleEnd}
-use Rattle.cj_console.specs.declared.console.ConsoleEnd.TheVariants as ends
+use Rattle.cj_console.specs.declared.chat.ConsoleEnd.{ConsoleEnd}
+use Rattle.cj_console.specs.declared.chat.ConsoleEnd.TheVariants as ends
 use Rattle.cj_serve.specs.declared.serving.ServeEnd.{ServeEnd}
 use Rattle.cj_serve.specs.declared.serving.ServeEnd.TheVariants as serve_end
 use Rattle.cj_served.specs.Servings.{ChatsFrom, status_of_serving}

@@ -1,5 +1,6 @@
 -- What the thread of the console is handed may go to it.
 use denote.RattleType.{RattleType}
+use denote.Ref.{NamedLft}
 use denote.Param.Send.{IsSend, IsSync, sendable, recorded_send, struct_send}
 use denote.Struct.Declared.{shape}
 use Rattle.std.proofs.Crossing as heap
@@ -18,10 +19,10 @@ pass_send J n sj = search (event_send, seat.the_send, sendable) depth 40
 shelf_send : (D : RattleType) (d : store.Ghosts D.Denot) → IsSend D → IsSend (shelf.the_field D d).row
 shelf_send D d sd = search (heap.crosses, sendable) depth 60 fits 20000
 
-pub chatting_send : (J B S D I O : RattleType) (n : naming.Ghosts J.Denot) (b : backend.Ghosts B.Denot) (s : store.Ghosts S.Denot) (d : store.Ghosts D.Denot)
-    → IsSend J → IsSync J → IsSend B → IsSend S → IsSend D → IsSend I → IsSend O → IsSend (chatting.the_row J B S D I O n b s d)
-chatting_send J B S D I O n b s d sj yj sb ss sd si so =
-    recorded_send (chatting.the_field J B S D I O n b s d).row _ _ (chatting.the_type J B S D I O n b s d).to_one (struct_send (shape (chatting.the_type J B S D I O n b s d)) (
+pub chatting_send : (a : NamedLft) (J B S D I O : RattleType) (n : naming.Ghosts J.Denot) (b : backend.Ghosts B.Denot) (s : store.Ghosts S.Denot) (d : store.Ghosts D.Denot)
+    → IsSend J → IsSync J → IsSend B → IsSend S → IsSend D → IsSend I → IsSend O → IsSend (chatting.the_row a J B S D I O n b s d)
+chatting_send a J B S D I O n b s d sj yj sb ss sd si so =
+    recorded_send (chatting.the_field a J B S D I O n b s d).row _ _ (chatting.the_type a J B S D I O n b s d).to_one (struct_send (shape (chatting.the_type a J B S D I O n b s d)) (
       search (heap.crosses, sendable) depth 20,
       (
         search (control_sync, heap.crosses, sendable) depth 40,

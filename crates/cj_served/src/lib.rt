@@ -7,7 +7,7 @@
 //! (`ChatsFrom`). The accepting is done exactly if the port gave as many connections as were asked for.
 //! Not promised: that each connection got its session (`cj_serve`).
 //! To change: `serving.rt` has the two sides, `side.rt` their threads, `started.rt` the start.
-//! To read: `specs/Servings`. Proofs begin in `proofs/Serving`.
+//! To read: `specs/Servings`. Proofs begin in `proofs/FromStart`.
 #![tactic(auto)]
 
 mod serving;

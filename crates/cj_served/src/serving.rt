@@ -1,6 +1,7 @@
 //! The console and the accepting, beside each other.
 
 ghost use Rattle.std.specs.Prelude.{◌≡◌, ◌≢◌, ◌↔◌, ◌+◌, true};
+ghost use Rattle.std.specs.Thread.{IsSend};
 ghost use Rattle.cj_cluster.specs.History.Legality.{IsLegal};
 ghost use Rattle.cj_outside.specs.Causes.{CountsFault};
 ghost use Rattle.cj_board.specs.Seats.{front, pass_view};
@@ -58,54 +59,10 @@ impl<'a, J: Naming, B: Backend + Drop, S: Store + Drop, D: Store, I: Source, O: 
     }
 }
 
-/// The accepting of connections at a port.
-#[derive(Drop)]
-struct Accepting<'a, J: Naming, B: Backend, S: Store, C, P> {
-    alloc: Global,
-    control: &'a Arc<Control<J, B, S>, Global>,
-    pass: &'a mut Pass<J>,
-    port: &'a mut P,
-    spawner: &'a mut Spawner,
-    clock: &'a Arc<C, Global>,
-    seed: u64,
-    connections: u64,
-}
-
-impl<
-    'a,
-    J: Naming + Send + Sync + 'static,
-    B: Backend + Send + Drop + 'static,
-    S: Store + Send + Drop + 'static,
-    C: Clock + Send + Sync + Drop + 'static,
-    R: Threads + Wait + Copy + Drop + Send + 'static,
-    P: Port<R>,
-> Side<R> for Accepting<'a, J, B, S, C, P> {
-    type End = ServeEnd;
-
-    ghost can_go = { λ s. ⊤ };
-
-    ghost goes = { λ s end t. (t.port.ghost_name ≡ s.port.ghost_name)
-        × ((end ≡ accepting.Done) ↔ ((P.accepted t.port.now ≡ P.accepted s.port.now + s.connections) × (s.connections ≢ 0)))
-        × CountsFault (end ≡ accepting.PortFault) (P.faults s.port.now) (P.faults t.port.now) };
-
-    fn go(&mut self, rt: &R) -> ServeEnd {
-        serve(
-            rt,
-            self.alloc,
-            self.control,
-            self.pass,
-            self.port,
-            self.spawner,
-            self.clock,
-            self.seed,
-            self.connections,
-        )
-    }
-}
-
 /// Has a console chat on the streams, and meanwhile serves sessions over so many connections of the port, 0 for any
 /// number. Returns how both ended, once they have. Where no thread can be made, the console comes after the accepting.
 pub(crate) fn chat_and_serve<
+    'a,
     J: Naming + Send + Sync + 'static,
     B: Backend + Send + Drop + 'static,
     S: Store + Send + Drop + 'static,
@@ -118,14 +75,14 @@ pub(crate) fn chat_and_serve<
 >(
     rt: &R,
     alloc: Global,
-    control: &Arc<Control<J, B, S>, Global>,
-    pass: &mut Pass<J>,
-    shelf: &mut Shelf<D>,
-    input: &mut I,
-    output: &mut O,
-    clock: &Arc<C, Global>,
-    port: &mut P,
-    spawner: &mut Spawner,
+    control: &'a Arc<Control<J, B, S>, Global>,
+    pass: &'a mut Pass<J>,
+    shelf: &'a mut Shelf<D>,
+    input: &'a mut I,
+    output: &'a mut O,
+    clock: &'a Arc<C, Global>,
+    port: &'a mut P,
+    spawner: &'a mut Spawner,
     seed: u64,
     connections: u64,
 ) -> (ConsoleEnd, ServeEnd)
@@ -139,16 +96,6 @@ pub(crate) fn chat_and_serve<
     ensures port { CountsFault (result.1 ≡ accepting.PortFault) (P.faults port.old) (P.faults port.new) }
 {
     let mut split = control.split(pass);
-    let mut accepting = Accepting {
-        alloc,
-        control,
-        pass: &mut split,
-        port,
-        spawner,
-        clock,
-        seed,
-        connections,
-    };
     let mut chatting = Chatting {
         alloc,
         control: &**control,
@@ -157,5 +104,24 @@ pub(crate) fn chat_and_serve<
         input,
         output,
     };
-    beside(rt, &mut chatting, &mut accepting)
+    beside(
+        rt,
+        &mut chatting,
+        &mut || -> ServeEnd
+            requires { IsSend J.row × IsSend B.row × IsSend S.row × IsSend C.row × IsSend P.In.row × IsSend P.Out.row }
+            ensures { ((result ≡ accepting.Done) ↔ ((P.accepted port.exit.now ≡ P.accepted port.entry.now + connections) × (connections ≢ 0))) × CountsFault (result ≡ accepting.PortFault) (P.faults port.entry.now) (P.faults port.exit.now) }
+        {
+            serve(
+                rt,
+                alloc,
+                control,
+                &mut split,
+                port,
+                spawner,
+                clock,
+                seed,
+                connections,
+            )
+        },
+    )
 }

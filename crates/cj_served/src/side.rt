@@ -2,7 +2,7 @@
 
 use std::thread::{Threads, join_mut};
 
-/// One of two sides that go beside each other. What a side borrows stands in it, so that each has a type of its own.
+/// One side of two that go beside each other. What it borrows stands in it.
 pub(crate) trait Side<R> {
     /// What it comes to.
     type End;
@@ -17,24 +17,20 @@ pub(crate) trait Side<R> {
         ensures goes { goes self.old result self.new };
 }
 
-/// Has both sides go, the first in a new thread. Where no thread can be made, the first goes after the second.
-pub(crate) fn beside<
-    R: Threads + Sync,
-    X: Side<R, End = E> + Send,
-    Y: Side<R, End = F>,
-    E: Send,
-    F,
->(rt: &R, first: &mut X, second: &mut Y) -> (E, F)
-    requires can { X.can_go first.old × Y.can_go second.old }
-    ensures goes { X.goes first.old result.0 first.new × Y.goes second.old result.1 second.new }
+/// Has a side go in a new thread, and calls the other meanwhile. Where no thread can be made, the side goes after the call.
+pub(crate) fn beside<R: Threads + Sync, X: Side<R, End = E> + Send, G: FnMut() -> F, E: Send, F>(
+    rt: &R,
+    side: &mut X,
+    other: &mut G,
+) -> (E, F)
+    requires can { X.can_go side.old × G.pre other.old }
+    ensures goes { X.goes side.old result.0 side.new × G.step other.old result.1 other.new }
 {
     join_mut(
         rt,
         &mut ||
-            requires { X.can_go first.now }
-        { first.go(rt) },
-        &mut ||
-            requires { Y.can_go second.now }
-        { second.go(rt) },
+            requires { X.can_go side.now }
+        { side.go(rt) },
+        other,
     )
 }

@@ -128,20 +128,26 @@ fn main(rt: HostRuntime) -> ExitCode {
     };
     let mut port = port(rt.alloc(), &rt, &words);
     let mut spawner = Spawner::new(rt.alloc(), CONNECTIONS);
-    let ended = run(
-        &rt,
-        rt.alloc(),
-        &words,
-        &mut conf,
-        log,
-        dumps,
-        &mut input,
-        &mut output,
-        &mut errors,
-        &clock,
-        &mut port,
-        &mut spawner,
-    );
+    // Where the address can't be had nothing is started: the console alone would serve nobody.
+    let status = if address(&words).is_some() && port.cause().is_some() {
+        9
+    } else {
+        run(
+            &rt,
+            rt.alloc(),
+            &words,
+            &mut conf,
+            log,
+            dumps,
+            &mut input,
+            &mut output,
+            &mut errors,
+            &clock,
+            &mut port,
+            &mut spawner,
+        )
+        .status
+    };
     let traces = Traces {
         words: &words,
         input: input.notes(),
@@ -150,6 +156,6 @@ fn main(rt: HostRuntime) -> ExitCode {
         // If the configuration's file had no error, that of the log or of the dumps is the one that failed.
         log: store_cause.or(Some(ErrorKind::Other)),
     };
-    explain(rt.alloc(), ended.status, &traces, &mut conf, &mut errors);
-    ExitCode::from(ended.status)
+    explain(rt.alloc(), status, &traces, &mut conf, &mut errors);
+    ExitCode::from(status)
 }

@@ -1,0 +1,2 @@
+mod NewBackends
+mod ServingWords
