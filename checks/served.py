@@ -5,6 +5,7 @@ them is a transaction. Other tables are no concern of these.
 """
 import bisect
 import collections
+import contextlib
 import itertools
 import os
 import re
@@ -378,13 +379,14 @@ class Serving:
         try:
             if kind is not None and issubclass(kind, Failed) and not self.killed.is_set():
                 # Of what was found wrong this is the cause.
-                self.look()
+                self.look(1)
         finally:
             self.kill()
 
-    def look(self):
-        """Looks whether the server runs."""
-        if self.run.poll() is not None:
+    def look(self, patience=0):
+        """Looks whether the server runs, and will for so many seconds."""
+        with contextlib.suppress(subprocess.TimeoutExpired):
+            self.run.wait(timeout=patience)
             raise Failed(f"the server ended with {self.run.returncode}: {self.run.stderr.read().decode()[-2000:]}")
 
     def terminate(self):
@@ -454,8 +456,7 @@ def work(serving, draws, seconds, name, told):
     try:
         administer(serving, draws, time.monotonic() + seconds, name, told)
     except Gone:
-        time.sleep(0.1)
-        serving.look()
+        serving.look(1)
         raise Failed("the console has ended, and the server runs") from None
 
 
