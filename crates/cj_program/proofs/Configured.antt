@@ -19,11 +19,12 @@ use Rattle.cj_served.specs.declared.started.Unserved.{Unserved}
 use Rattle.cj_top.specs.Configured.{in_memory, new_backend}
 use Rattle.cj_program.specs.Served.{Counted, RunsServe, served_by}
 
+-- backends that are seen as new by what they tell are seen as the configuration has them
+new_by : (c : Conf) (kept tells : Bool) → tells ≡ (in_memory c && kept) → (backends : List BackendState) → backends ≡ replicate (length c.placement.names) (new_backend tells) → backends ≡ replicate (length c.placement.names) (new_backend (in_memory c && kept))
+new_by c kept tells told backends seen = seen ∙ ap (λ (t : Bool). replicate (length c.placement.names) (new_backend t)) told
+
 -- The parts that the world was made of are the configuration's, and its backends are seen as new.
 module _ {S D : Type 0} (c : Conf) (kept : Bool) (found : List LogItem → Type 0) (dumps : D) (tells : Bool) (told : tells ≡ (in_memory c && kept)) (l : Layout) (placed : l ≡ c.placement) (backends : List BackendState) (seen : backends ≡ replicate (length c.placement.names) (new_backend tells)) where
-  new_seen : backends ≡ replicate (length c.placement.names) (new_backend (in_memory c && kept))
-  new_seen = seen ∙ ap (λ (t : Bool). replicate (length c.placement.names) (new_backend t)) told
-
   -- it was served as the configuration has it
   pub runs_serve : (held : D → List ℕ) (faults : D → ℕ) (left left' out out' : Option (List ℕ)) (before now : Counted) (accounts : Register) (registered : accounts ≡ c.accounts) (cache : CacheState) (cached : cache ≡ empty_cache c.cache) (r : Result (ConsoleEnd × ServeEnd) (Unserved S D))
       → IfOk r (λ x. (first : WorldState) × StartsFrom found (placement_of l) backends first × (first.setup ≡ record { names = l.names; accounts = accounts }) × (first.cache ≡ cache) × ChatsFrom (record { tells = tells; kept = kept; layout = l; held = held; faults = faults }) dumps left left' out out' first x.0)
@@ -39,7 +40,7 @@ module _ {S D : Type 0} (c : Conf) (kept : Bool) (found : List LogItem → Type 
         first = first;
         begins = record {
           setup = served.2 ∙ (ap (λ (q : Layout). record { names = q.names; accounts = accounts }) placed ∙ ap (λ (a : Register). record { names = c.placement.names; accounts = a }) registered);
-          starts = subst (λ (xs : List BackendState). StartsFrom found (placement_of c.placement) xs first) new_seen starts;
+          starts = subst (λ (xs : List BackendState). StartsFrom found (placement_of c.placement) xs first) (new_by c kept tells told backends seen) starts;
           cache = served.3 ∙ cached;
         };
         ending = x.0;
@@ -57,5 +58,5 @@ module _ {S D : Type 0} (c : Conf) (kept : Bool) (found : List LogItem → Type 
       → IfErr r (RefusesServing (StartsFrom found (placement_of l) backends) faults held logged counts keeps kept log dumps)
       → IfErr r (RefusesServing (StartsFrom found (placement_of c.placement) (replicate (length c.placement.names) (new_backend (in_memory c && kept)))) faults held logged counts keeps kept log dumps)
   refuses_serving faults held logged counts keeps log r refused =
-      subst (λ (xs : List BackendState). IfErr r (RefusesServing (StartsFrom found (placement_of c.placement) xs) faults held logged counts keeps kept log dumps)) new_seen
+      subst (λ (xs : List BackendState). IfErr r (RefusesServing (StartsFrom found (placement_of c.placement) xs) faults held logged counts keeps kept log dumps)) (new_by c kept tells told backends seen)
       (subst (λ (q : Layout). IfErr r (RefusesServing (StartsFrom found (placement_of q) backends) faults held logged counts keeps kept log dumps)) placed refused)

@@ -11,10 +11,10 @@ use Rattle.cj_program.proofs.served.serve_configured.Goals as goal
 -- ---- backends in memory, beside the store of the dumps
 
 pub serve_over-requires-clause-empty : goal.serve_over-requires-clause-empty
-serve_over-requires-clause-empty g c = λ told. new_empty (λ b. b.inner) g.D.Store.tells c.in-Ok.backends c.in-Ok.ensures.new told
+serve_over-requires-clause-empty g c κs within = λ told. new_empty (λ b. b.inner) g.D.Store.tells c.in-Ok.backends c.in-Ok.ensures.new told
 
 pub serve_over-requires-clause-none : goal.serve_over-requires-clause-none
-serve_over-requires-clause-none g c = new_begun_none (λ b. b.inner) g.D.Store.tells c.in-Ok.backends c.in-Ok.ensures.new
+serve_over-requires-clause-none g c κs within = new_begun_none (λ b. b.inner) g.D.Store.tells c.in-Ok.backends c.in-Ok.ensures.new
 
 pub returns-then-are_in_memory-clause-runs : goal.returns-then-are_in_memory-clause-runs
 returns-then-are_in_memory-clause-runs g c =
@@ -44,7 +44,7 @@ returns-then-are_in_memory-clause-refused g c =
 -- ---- any backends
 
 pub serve_over-requires-2-clause-none : goal.serve_over-requires-2-clause-none
-serve_over-requires-2-clause-none g c =
+serve_over-requires-2-clause-none g c κs within =
     (any_are_new (length c.args.conf.placement.names) c.args.conf.kinds c.in-Ok-any_backends.backends (c.in-Ok-any_backends.ensures ∙ ap (map new_of) c.as_slice-2.ensures) c.requires.usable.kinds).none
 
 pub returns-clause-runs : goal.returns-clause-runs
