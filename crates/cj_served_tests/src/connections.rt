@@ -34,7 +34,7 @@ impl Sink for Ear {
 
 /// A client that heard nothing yet.
 pub fn silence(alloc: Global) -> Result<Heard, AllocError> {
-    Arc::new(alloc, Mutex::new(Vec::new(alloc)))
+    Ok(Arc::new(alloc, Mutex::new(Vec::new(alloc)))?)
 }
 
 /// Whether a client heard just these bytes.

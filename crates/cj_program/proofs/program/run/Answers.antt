@@ -1,4 +1,4 @@
-use Rattle.std.proofs.Common.{◌≡◌, refl, ap, Some, map}
+use Rattle.std.proofs.Common.{◌≡◌, refl, sym, ap, Some, map}
 use Rattle.std.specs.Prelude.{string_bytes}
 use Rattle.cj_program.specs.Served.{AsksToServe}
 use Rattle.cj_program.proofs.ServingWords.{serving_is_asked, serving_is_no_command, serving_is_no_text}
@@ -36,10 +36,24 @@ returns-in-Some-clause-opens g c tells command says =
     let asks : AsksToServe (map string_bytes c.args.words.now) = (some.0, c.in-Some.field-0.now, some.1) in
     absurd (serving_is_no_command (map string_bytes c.args.words.now) asks command says)
 
+pub returns-in-Some-clause-input : goal.returns-in-Some-clause-input
+returns-in-Some-clause-input g c none =
+    let some = c.in-Some.ensures.some in
+    let asks : AsksToServe (map string_bytes c.args.words.now) = (some.0, c.in-Some.field-0.now, some.1) in
+    absurd (none asks)
+
+pub returns-in-Some-clause-output : goal.returns-in-Some-clause-output
+returns-in-Some-clause-output g c none =
+    let some = c.in-Some.ensures.some in
+    let asks : AsksToServe (map string_bytes c.args.words.now) = (some.0, c.in-Some.field-0.now, some.1) in
+    absurd (none asks)
+
 -- ---- all other words
 
 pub returns-in-None-clause-runs : goal.returns-in-None-clause-runs
-returns-in-None-clause-runs g c command says = (c.run-ended.result.log, refl, c.run-ended.ensures.runs command says)
+returns-in-None-clause-runs g c command says =
+    let same : c.args.clock.now.value ≡ c.deref.result.now = sym c.deref.ensures in
+    rw same (c.run-ended.result.log, refl, c.run-ended.ensures.runs command says)
 
 pub returns-in-None-clause-text : goal.returns-in-None-clause-text
 returns-in-None-clause-text g c asks =
