@@ -23,7 +23,7 @@ mod worker;
 use crate::configured::setting;
 use crate::lines::Lines;
 use crate::tasks::{USAGE, task_of};
-use crate::trial::try_start;
+use crate::trial::try_tried;
 use cj_edge::{FileStore, StdSink, words};
 use cj_outside::{Sink, write_all};
 use std::alloc::Global;
@@ -62,7 +62,7 @@ fn main(rt: HostRuntime) -> ExitCode {
         return ExitCode::from(1);
     };
     let told = match setting(rt, alloc, plan) {
-        Some((conf, backends)) => try_start(&rt, alloc, plan, conf, log, backends),
+        Some((conf, backends)) => try_tried(&rt, alloc, plan, conf, log, backends),
         None => None,
     };
     ExitCode::from(end_with(&mut StdSink::new(rt.stdout()), told))

@@ -1,6 +1,6 @@
 //! One start of a cluster: clients and an administrator, each in a thread of its own.
 
-ghost use Rattle.std.specs.Prelude.{◌≡◌, ◌≤◌, true, length, map, vec_capacity};
+ghost use Rattle.std.specs.Prelude.{◌≡◌, ◌≤◌, true, All, length, map, vec_capacity};
 ghost use Rattle.cj_outside.specs.Stores.{Only};
 ghost use Rattle.cj_model.specs.declared.limits.TheConstants.{BACKEND_LIMIT};
 ghost use Rattle.cj_conf.specs.Confs.{IsUsable};
@@ -8,9 +8,12 @@ ghost use Rattle.cj_board.specs.Seats.{board_id, pass_board};
 ghost use Rattle.cj_state.specs.Beginnings.{AreEmpty};
 ghost use Rattle.cj_core.specs.Starts.{HaveBegunNone};
 ghost use Rattle.cj_control.specs.Starting.{AreOfStarted};
+ghost use Rattle.cj_flaky.specs.FlakyBackends.{fresh_over};
+ghost use Rattle.cj_mem.specs.MemoryBackends.{fresh_state};
 
 use crate::administrator::{administer, audit};
 use crate::client::{create_tables, leave_orphan, serve_drawn, serve_planted};
+use crate::configured::Tried;
 use crate::lines::Lines;
 use crate::started::started;
 use crate::tasks::{Plan, Wrong};
@@ -195,7 +198,7 @@ fn try_shared<
 
 /// Starts a cluster over these backends and the log, tries it, and stops it. Returns what its threads tell. None if it
 /// does not start, or memory is wanting.
-pub fn try_start<
+fn try_start<
     B: Backend + Drop + Send + Sync,
     S: Store + Drop + Send,
     R: Threads + Wait + Clock + Sync,
@@ -210,4 +213,25 @@ pub fn try_start<
     let trial = Trial { plan, began };
     let shared = started(alloc, conf, log, backends)?;
     try_shared::<Brand, _, S, R>(rt, alloc, shared, Blank::new(1), trial)
+}
+
+/// Does so over backends that were made for it, and not called yet.
+pub fn try_tried<
+    C: Clock + Copy + Send + Sync,
+    S: Store + Drop + Send,
+    R: Threads + Wait + Clock + Sync,
+>(
+    rt: &R,
+    alloc: Global,
+    plan: Plan,
+    conf: Conf,
+    log: S,
+    backends: Backends<Tried<C>>,
+) -> Option<Lines>
+    requires usable { IsUsable conf }
+    requires as_many { length backends ≡ length conf.placement.names }
+    requires fresh { All (λ b. b.inner ≡ fresh_over fresh_state b.inner.fails) backends }
+    requires disk { S.tells ≡ true → Only (S.held log) (S.may log) }
+{
+    try_start(rt, alloc, plan, conf, log, backends)
 }
