@@ -1,5 +1,5 @@
 -- Each dump of a shelf may be loaded, at any later time.
-use Rattle.std.proofs.Common.{◌≡◌, ℕ, ◌<◌, Bool, true, false, List, [], ◌∷◌, ◌++◌, length, All, Result, Ok, Err, Some, inl, inr, refl, ap, sym, ◌∙◌, subst, arith}
+use Rattle.std.proofs.Common.{◌≡◌, ℕ, ◌<◌, Bool, true, false, List, [], ◌∷◌, ◌++◌, length, All, Result, Ok, Err, Some, inl, refl, sym, subst, arith}
 use mathlib.Core.List.{IsPrefix}
 use Rattle.std.proofs.lemmas.List.Elements.{All-append, All-cons, All-filter, All-get_or, All-nil, All-weaker}
 use Rattle.std.proofs.lemmas.Option.{get_or_from_slice_get, slice_get_within}
@@ -12,8 +12,7 @@ use Rattle.cj_cluster.proofs.Pushed.{prefix_trans}
 use Rattle.cj_place.specs.Layouts.{Layout}
 use Rattle.cj_board.specs.declared.view.SeatView.{SeatView}
 use Rattle.cj_dump.specs.declared.dump.Dump.{Dump}
-use Rattle.cj_shelf.specs.declared.error.ShelfError.{ShelfError}
-use Rattle.cj_shelf.specs.Shelves.{first_of, is_among, KeepsDumps, Opens, ShelfState}
+use Rattle.cj_shelf.specs.Shelves.{first_of, is_among, KeepsDumps, ShelfState}
 use Rattle.cj_shelf.proofs.Bodies.{one_shelf}
 use Rattle.cj_locks.specs.Restoring.{IsRightDump}
 use Rattle.cj_replay.proofs.Restored.{right_later}
