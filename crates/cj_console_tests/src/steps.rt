@@ -112,7 +112,29 @@ fn type_rows<J: Naming, B: Backend + Drop, R: Wait + Abort>(
     hold_chat(rt, alloc, control, pass, shelf, &typed)
 }
 
-/// Takes the steps, each after the one before, over an empty shelf. Sessions have a pass of their own.
+/// Takes a step. A session has a pass of its own.
+fn take<J: Naming, B: Backend + Drop, R: Wait + Abort>(
+    rt: &R,
+    alloc: Global,
+    control: &Control<J, B, MemStore>,
+    pass: &mut Pass<J>,
+    other: &mut Pass<J>,
+    shelf: &mut Shelf<MemStore>,
+    step: &Step<'_>,
+) -> Result<(), NoMemory>
+    requires legal { IsLegal (front pass.old.seat) }
+    requires dumps { AreRightDumps B.tells (front pass.old.seat) shelf.old.dumps }
+    ensures legal { IsLegal (front pass.new.seat) }
+    ensures dumps { AreRightDumps B.tells (front pass.new.seat) shelf.new.dumps }
+{
+    match step {
+        Step::Session(texts) => hold_session(rt, alloc, control, other, texts),
+        Step::Rows(rows) => type_rows(rt, alloc, control, pass, shelf, rows),
+        Step::Chat(typed) => hold_chat(rt, alloc, control, pass, shelf, typed),
+    }
+}
+
+/// Takes the steps, each after the one before, over an empty shelf.
 pub fn take_all<J: Naming, B: Backend + Drop, R: Wait + Abort>(
     rt: &R,
     alloc: Global,
@@ -126,11 +148,7 @@ pub fn take_all<J: Naming, B: Backend + Drop, R: Wait + Abort>(
 {
     let mut other = control.split(pass);
     for step in steps {
-        match step {
-            Step::Session(texts) => hold_session(rt, alloc, control, &mut other, texts)?,
-            Step::Rows(rows) => type_rows(rt, alloc, control, pass, shelf, rows)?,
-            Step::Chat(typed) => hold_chat(rt, alloc, control, pass, shelf, typed)?,
-        }
+        take(rt, alloc, control, pass, &mut other, shelf, step)?;
     }
     Ok(())
 }
