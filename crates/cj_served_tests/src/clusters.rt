@@ -1,6 +1,6 @@
 //! A cluster over two backends in memory that have every table, and how it is served.
 
-ghost use Rattle.std.specs.Prelude.{◌≡◌, [], length, IfOk};
+ghost use Rattle.std.specs.Prelude.{◌≤◌, ◌≡◌, [], length, IfOk};
 ghost use Rattle.cj_model.specs.declared.limits.TheConstants.{USER_LIMIT};
 ghost use Rattle.cj_model.specs.Cluster.Caching.{empty_cache};
 
