@@ -1,4 +1,4 @@
--- What the threads of a trial are handed may cross to them.
+-- What threads are handed may cross to them.
 use denote.RattleType.{RattleType}
 use denote.Param.Send.{IsSend, sendable, recorded_send, struct_send}
 use denote.Struct.Declared.{shape}
@@ -9,6 +9,7 @@ use Rattle.cj_pass.specs.declared.naming.Naming as naming
 use Rattle.cj_pass.specs.contracts.pass.Pass as pass
 use Rattle.cj_control.proofs.Crossing.{event_send}
 use Rattle.cjc_stress.specs.contracts.lines.Lines as lines
+use Rattle.cjc_stress.specs.contracts.measures.Job as job
 use Rattle.cjc_stress.specs.contracts.worker.Worker as worker
 
 draw_send : IsSend (draw.the_field).row
@@ -35,5 +36,14 @@ worker_send N n sn = recorded_send (worker.the_field N n).row _ _ (worker.the_ty
         ),
       ),
     ),
+  ),
+))
+
+pub job_send : (N : RattleType) (n : naming.Ghosts N.Denot) → IsSend N → IsSend (job.the_row N n)
+job_send N n sn = recorded_send (job.the_field N n).row _ _ (job.the_type N n).to_one (struct_send (shape (job.the_type N n)) (
+  search (pass_field_send, sendable) depth 20,
+  (
+    search (heap.crosses, sendable) depth 40,
+    tt,
   ),
 ))

@@ -18,7 +18,14 @@ one_longer xs zs x n is many = ap length is ∙ (length_push xs x ∙ ap (λ m. 
 seen_each : {X Y : Type 0} (P : X → Type 0) (Q : Y → Type 0) (f : X → Y) → ((x : X) → P x → Q (f x)) → (xs : List X) → All P xs → All Q (map f xs)
 seen_each P Q f gives xs all = All-map Q f xs (All-weaker P (λ x. Q (f x)) gives xs all)
 
--- those that fail in some calls are empty, and have begun no transaction
+-- those in memory are empty, and have begun no transaction
+pub memory_are_empty : (xs : List MemoryState) → All (λ x. x ≡ fresh_state) xs → All (λ (t : Option (List Slot)). t ≡ Some []) (map (λ (m : MemoryState). m.told) xs)
+memory_are_empty xs new = seen_each (λ (x : MemoryState). x ≡ fresh_state) (λ (t : Option (List Slot)). t ≡ Some []) (λ (m : MemoryState). m.told) (λ x is. ap (λ (m : MemoryState). m.told) is) xs new
+
+pub memory_have_begun_none : (xs : List MemoryState) → All (λ x. x ≡ fresh_state) xs → All (λ (b : List ℕ). b ≡ []) (map (λ (m : MemoryState). m.begun) xs)
+memory_have_begun_none xs new = seen_each (λ (x : MemoryState). x ≡ fresh_state) (λ (b : List ℕ). b ≡ []) (λ (m : MemoryState). m.begun) (λ x is. ap (λ (m : MemoryState). m.begun) is) xs new
+
+-- and so are those that fail in some calls, over such ones
 module _ {G : Type 0} (inner : G → FlakyState MemoryState) (xs : List G) (new : All (λ (g : G). inner g ≡ fresh_over fresh_state (inner g).fails) xs) where
   pub tried_are_empty : All (λ (t : Option (List Slot)). t ≡ Some []) (map (λ (g : G). told_by (λ (m : MemoryState). m.told) (inner g)) xs)
   tried_are_empty = seen_each (λ (g : G). inner g ≡ fresh_over fresh_state (inner g).fails) (λ (t : Option (List Slot)). t ≡ Some []) (λ (g : G). told_by (λ (m : MemoryState). m.told) (inner g)) (λ g is. ap (told_by (λ (m : MemoryState). m.told)) is) xs new

@@ -45,6 +45,18 @@ tables = [{ name = \"t0\", hosts = [\"b0\", \"b1\"] }, { name = \"t1\", hosts = 
 users = [{ name = \"ann\", sha256 = \"2bb80d537b1da3e38bd30361aa855686bde0eacd7162fef6a25fe97bf527a25b\", logins = [\"l0\", \"l1\", \"l2\", \"l3\"] }]
 ";
 
+const MEASURED: &[u8] = b"level = \"raidb1\"
+cache = 0
+backends = [{ name = \"b0\", kind = \"memory\" }, { name = \"b1\", kind = \"memory\" }]
+users = [{ name = \"ann\", sha256 = \"2bb80d537b1da3e38bd30361aa855686bde0eacd7162fef6a25fe97bf527a25b\", logins = [\"l0\", \"l1\"] }]
+";
+
+const MEASURED_CACHE: &[u8] = b"level = \"raidb1\"
+cache = 4096
+backends = [{ name = \"b0\", kind = \"memory\" }, { name = \"b1\", kind = \"memory\" }]
+users = [{ name = \"ann\", sha256 = \"2bb80d537b1da3e38bd30361aa855686bde0eacd7162fef6a25fe97bf527a25b\", logins = [\"l0\", \"l1\"] }]
+";
+
 /// The text of the configuration of a cluster that is tried.
 fn tried(placed: Placed) -> &'static [u8] {
     match placed {
@@ -53,8 +65,13 @@ fn tried(placed: Placed) -> &'static [u8] {
     }
 }
 
+/// The text of the configuration of a cluster that is measured.
+pub fn measured(cache: bool) -> &'static [u8] {
+    if cache { MEASURED_CACHE } else { MEASURED }
+}
+
 /// The configuration that a text is. None if it is none, or memory is wanting.
-fn conf_of(alloc: Global, text: &[u8]) -> Option<Conf>
+pub fn conf_of(alloc: Global, text: &[u8]) -> Option<Conf>
     ensures { IfSome result IsUsable }
 {
     match read_conf(alloc, text) {
@@ -86,6 +103,18 @@ pub fn parts_of(alloc: Global, conf: Conf) -> Result<Parts, NoMemory>
         },
         accounts,
     })
+}
+
+/// Makes so many empty backends in memory.
+pub fn memory_backends(alloc: Global, count: u8) -> Result<Backends<MemBackend>, NoMemory>
+    ensures count { IfOk result (λ backends. length backends ≡ count) }
+    ensures fresh { IfOk result (All (λ b. b ≡ fresh_state)) }
+{
+    let mut backends = Backends::new(alloc);
+    for _ in 0..count {
+        backends.push(MemBackend::new(alloc))?;
+    }
+    Ok(backends)
 }
 
 /// Returns among how many first calls of backend `b` those are that fail. They are ever more, so that some backend fails

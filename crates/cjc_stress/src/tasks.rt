@@ -2,7 +2,9 @@
 
 /// What the words may be.
 pub const USAGE: &str =
-    "usage: cjc_stress stress raidb1|raidb2 START SECONDS SEED sound|faulty|planted\n";
+    "usage: cjc_stress stress raidb1|raidb2 START SECONDS SEED sound|faulty|planted
+       cjc_stress bench reads|writes|reads-beside-writes THREADS REQUESTS cache|no-cache
+";
 
 /// Which placement the cluster has.
 #[derive(Clone, Copy, PartialEq, Eq)]
@@ -36,6 +38,35 @@ pub struct Plan {
     pub wrong: Wrong,
 }
 
+/// What is measured.
+#[derive(Clone, Copy)]
+pub struct Measure {
+    pub kind: Kind,
+    pub threads: u64,
+    /// So many requests of each thread.
+    pub requests: u64,
+    /// Whether the result cache keeps answers.
+    pub cache: bool,
+}
+
+/// A kind of measure.
+#[derive(Clone, Copy, PartialEq, Eq)]
+pub enum Kind {
+    /// Reads by key, of each thread.
+    Reads,
+    /// Updates by key, of each thread.
+    Writes,
+    /// Reads by key, of each thread, while another one writes without pause.
+    ReadsBesideWrites,
+}
+
+/// What the program does.
+#[derive(Clone, Copy)]
+pub enum Task {
+    Stress(Plan),
+    Bench(Measure),
+}
+
 fn number(word: &str) -> Option<u64> {
     word.parse::<u64>().ok()
 }
@@ -57,6 +88,24 @@ fn wrong_of(word: &str) -> Option<Wrong> {
     }
 }
 
+fn kind_of(word: &str) -> Option<Kind> {
+    match word {
+        "reads" => Some(Kind::Reads),
+        "writes" => Some(Kind::Writes),
+        "reads-beside-writes" => Some(Kind::ReadsBesideWrites),
+        _ => None,
+    }
+}
+
+/// Whether there is a cache.
+fn cache_of(word: &str) -> Option<bool> {
+    match word {
+        "cache" => Some(true),
+        "no-cache" => Some(false),
+        _ => None,
+    }
+}
+
 /// The words behind `stress`.
 fn plan_of(words: &[String]) -> Option<Plan> {
     let [placed, start, seconds, seed, wrong] = words else {
@@ -71,13 +120,27 @@ fn plan_of(words: &[String]) -> Option<Plan> {
     })
 }
 
+/// The words behind `bench`.
+fn measure_of(words: &[String]) -> Option<Measure> {
+    let [kind, threads, requests, cache] = words else {
+        return None;
+    };
+    Some(Measure {
+        kind: kind_of(kind.as_str())?,
+        threads: number(threads.as_str())?,
+        requests: number(requests.as_str())?,
+        cache: cache_of(cache.as_str())?,
+    })
+}
+
 /// What the words ask for, or None if it is nothing that this program does.
-pub fn task_of(words: &[String]) -> Option<Plan> {
+pub fn task_of(words: &[String]) -> Option<Task> {
     let [verb, rest @ ..] = words else {
         return None;
     };
     match verb.as_str() {
-        "stress" => plan_of(rest),
+        "stress" => Some(Task::Stress(plan_of(rest)?)),
+        "bench" => Some(Task::Bench(measure_of(rest)?)),
         _ => None,
     }
 }
