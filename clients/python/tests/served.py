@@ -1,37 +1,31 @@
-"""What the tests share: a server, which is that of the environment or the toy, and connections to it."""
+"""What the tests share: a server, which is the built program or the toy, and connections to it."""
 from __future__ import annotations
 
 import os
+import shutil
+import tempfile
 import unittest
-from typing import Any, Optional
+from typing import Any
 
 import cjc
-from cjc.address import address_of
+from cjc.local import HOST, Server
 
 from .toy import PASSWORD, USER, Toy
 
-# HOST:PORT of a server to test over, besides the toy.
-SERVER = os.environ.get("CJC_SERVER")
-# A request or its reply takes no longer.
-PATIENCE = 10.0
+# The path of a built `cjc`, over whose `serve` the tests then run.
+PROGRAM = os.environ.get("CJC_PROGRAM")
+# A request or its reply takes no longer. (Programs that look for faults while they run are slow.)
+PATIENCE = 60.0
+
+ROOT = os.path.abspath(os.path.join(os.path.dirname(__file__), "..", "..", ".."))
+CONFIGURATION = os.path.join(ROOT, "example", "c1.toml")
 
 
-class OverToy(unittest.TestCase):
-    """Tests over a toy of their own, which can be told to misbehave."""
+class Served(unittest.TestCase):
+    """Tests over a server, which a class below starts."""
 
-    # None over the server of the environment.
-    toy: Any = None
-    host, user, password = "127.0.0.1", USER, PASSWORD
+    host, user, password = HOST, USER, PASSWORD
     port: int
-
-    @classmethod
-    def setUpClass(cls) -> None:
-        cls.toy = Toy()
-        cls.port = cls.toy.port
-
-    @classmethod
-    def tearDownClass(cls) -> None:
-        cls.toy.close()
 
     def setUp(self) -> None:
         self.tables: list[str] = []
@@ -52,27 +46,47 @@ class OverToy(unittest.TestCase):
             connection.cursor().execute(f"CREATE TABLE {name} ({columns})")
         return name
 
-    def needs_toy(self) -> None:
-        """Skips the test over a server that can't be told to misbehave."""
-        if self.toy is None:
-            self.skipTest("the server of CJC_SERVER can't be told to misbehave")
-
     def _drop(self) -> None:
         with cjc.connect(self.host, self.port, self.user, self.password, timeout=PATIENCE, autocommit=True) as one:
             for name in self.tables:
                 one.cursor().execute(f"DROP TABLE {name}")
 
 
-def over_server(case: type[OverToy]) -> Optional[type[OverToy]]:
-    """The same tests over the server of the environment, or None where it names none."""
-    if SERVER is None:
-        return None
-    address = address_of(SERVER)
+class OverToy(Served):
+    """Tests over a toy of their own, which can be told to misbehave."""
 
-    def nothing(cls: type[OverToy]) -> None:
-        """The server is there."""
+    toy: Toy
 
-    return type(f"{case.__name__}OverServer", (case,), {
-        "__module__": case.__module__, "toy": None, "setUpClass": classmethod(nothing), "tearDownClass": classmethod(nothing),
-        "host": address.host, "port": address.port,
-        "user": os.environ.get("CJC_USER", USER), "password": os.environ.get("CJC_PASSWORD", PASSWORD)})
+    @classmethod
+    def setUpClass(cls) -> None:
+        cls.toy = Toy()
+        cls.port = cls.toy.port
+
+    @classmethod
+    def tearDownClass(cls) -> None:
+        cls.toy.close()
+
+
+@unittest.skipUnless(PROGRAM, "CJC_PROGRAM names no built program")
+class OverProgram(Served):
+    """Tests over a `cjc serve` of their own, in a folder of its own."""
+
+    server: Server
+    folder: tempfile.TemporaryDirectory[str]
+
+    @classmethod
+    def setUpClass(cls) -> None:
+        assert PROGRAM is not None
+        cls.folder = tempfile.TemporaryDirectory()
+        cls.server = Server(PROGRAM, shutil.copy(CONFIGURATION, os.path.join(cls.folder.name, "conf.toml")))
+        cls.server.start()
+        cls.port = cls.server.port
+
+    @classmethod
+    def tearDownClass(cls) -> None:
+        cls.server.kill()
+        cls.folder.cleanup()
+
+
+# What any server has to do is tried over the program where one is named.
+OverServer: type[Served] = OverProgram if PROGRAM else OverToy

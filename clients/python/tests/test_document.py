@@ -10,13 +10,13 @@ import unittest
 import cjc
 from cjc import refusals
 
-from .served import OverToy
+from .served import ROOT, OverServer
 
-DOCUMENT = os.path.abspath(os.path.join(os.path.dirname(__file__), "..", "..", "..", "docs", "CLIENTS.md"))
+DOCUMENT = os.path.join(ROOT, "docs", "CLIENTS.md")
 
 
 @unittest.skipUnless(os.path.exists(DOCUMENT), "docs/CLIENTS.md is not beside this folder")
-class Document(OverToy):
+class Document(OverServer):
     """What the document says."""
 
     def setUp(self) -> None:

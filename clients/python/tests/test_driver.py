@@ -8,7 +8,7 @@ from urllib.parse import quote
 
 import cjc
 
-from .served import OverToy, over_server
+from .served import OverServer
 
 LOWEST, HIGHEST = -(2 ** 63), 2 ** 63 - 1
 # Quotes, line feeds, characters of one to four bytes, question marks, and what other dialects read as escapes.
@@ -44,7 +44,7 @@ class Module(unittest.TestCase):
         self.assertNotEqual(cjc.STRING, cjc.NUMBER)
 
 
-class Driver(OverToy):
+class Driver(OverServer):
     """Calls of connections and cursors."""
 
     def test_connects_by_url(self) -> None:
@@ -318,6 +318,3 @@ class Driver(OverToy):
             thread.join()
         self.assertEqual(failed, [])
         self.assertEqual(self.connect().cursor().execute(f"SELECT COUNT(*) FROM {table}").fetchone(), (256,))
-
-
-DriverOverServer = over_server(Driver)

@@ -21,8 +21,8 @@ from cjc.statements import many, template_of, verb_of
 from cjc.syntax import fault_of
 
 from . import toy
+from .served import ROOT
 
-ROOT = os.path.abspath(os.path.join(os.path.dirname(__file__), "..", "..", ".."))
 # What the proved parser of cjc is tested with: texts that read and texts that don't, and limits.
 TEXTS = os.path.join(ROOT, "crates", "cj_part_tests", "src", "texts.rt")
 # Sessions of the program, with the replies that were worked out by hand.

@@ -4,14 +4,9 @@ from __future__ import annotations
 import contextlib
 import io
 import os
-import pty
-import re
-import select
-import signal
 import stat
 import subprocess
 import sys
-import tempfile
 import threading
 import time
 import unittest
@@ -20,39 +15,16 @@ from unittest import mock
 from cjc.__main__ import main
 
 from . import toy
-from .served import PATIENCE, OverToy, over_server
-
-PACKAGE = os.path.dirname(os.path.dirname(os.path.abspath(__file__)))
-
-
-def environment(**more: str) -> dict[str, str]:
-    """The environment of a shell that finds the package and reads nobody's files."""
-    kept = {name: value for name, value in os.environ.items() if not name.startswith("CJC_")}
-    return {**kept, "PYTHONPATH": PACKAGE, "PYTHONDONTWRITEBYTECODE": "1", "TERM": "dumb", "INPUTRC": os.devnull,
-            "CJC_HISTORY": "", **more}
+from .served import PATIENCE, OverServer, OverToy
+from .terminal import Shells, Terminal, environment
 
 
-class WithoutTerminal(OverToy):
+class WithoutTerminal(Shells, OverServer):
     """-c, -f and standard input."""
 
     def setUp(self) -> None:
         super().setUp()
-        folder = tempfile.TemporaryDirectory()
-        self.addCleanup(folder.cleanup)
-        self.folder = folder.name
         self.table = self.create("shell")
-
-    def shell(self, *words: str, given: str = "", password: str = "") -> tuple[int, str, str]:
-        """The status, output and errors of the shell with these words."""
-        out, err = io.StringIO(), io.StringIO()
-        with mock.patch.dict(os.environ, {"CJC_PASSWORD": password or self.password, "CJC_USER": self.user}), \
-                mock.patch.object(sys, "stdin", io.StringIO(given)), \
-                contextlib.redirect_stdout(out), contextlib.redirect_stderr(err):
-            try:
-                status = main([f"{self.host}:{self.port}", *words])
-            except SystemExit as end:
-                status = int(end.code or 0)
-        return status, out.getvalue(), err.getvalue()
 
     def file(self, name: str, text: str) -> str:
         path = os.path.join(self.folder, name)
@@ -183,13 +155,6 @@ lines'), (4, 'esc \x1b[31m'); SELECT k, v FROM {self.table} ORDER BY v; SELECT C
             self.assertEqual(main([f"{self.host}:{self.port}", "-U", "ann", "-c", "SELECT 1"]), 2)
         self.assertIn("Set CJC_PASSWORD", said.getvalue())
 
-    def test_a_lost_connection(self) -> None:
-        self.needs_toy()
-        self.toy.tricks["UPDATE t SET v = ''"] = toy.closes()
-        status, _, err = self.shell("--keep-going", "-c", "UPDATE t SET v = ''", "-c", "SELECT k FROM t")
-        self.assertEqual((status, err.count("ERROR")), (2, 1))
-        self.assertIn("the outcome isn't known", err)
-
     @unittest.skipUnless(os.path.exists("/dev/full"), "this system has no /dev/full")
     def test_a_full_disk(self) -> None:
         status, out, err = self.shell("-c", f"\\o /dev/full\nSELECT k FROM {self.table};")
@@ -212,78 +177,8 @@ lines'), (4, 'esc \x1b[31m'); SELECT k, v FROM {self.table} ORDER BY v; SELECT C
         self.assertEqual((run.returncode, err), (1, b""))
 
 
-class Terminal:
-    """A shell at a pseudo terminal of its own."""
-
-    def __init__(self, words: list[str], **more: str) -> None:
-        self.shown = ""
-        self._process, self._end = pty.fork()
-        if self._process == 0:
-            os.execve(sys.executable, [sys.executable, "-m", *words], environment(**more))
-
-    def send(self, text: str) -> None:
-        os.write(self._end, text.encode())
-
-    def wait_for(self, pattern: str) -> str:
-        """What is shown from here up to a match of the pattern."""
-        end = time.monotonic() + PATIENCE + 10
-        while True:
-            found = re.search(pattern, self.shown)
-            if found:
-                before, self.shown = self.shown[:found.end()], self.shown[found.end():]
-                return before
-            if not select.select([self._end], [], [], max(0, end - time.monotonic()))[0]:
-                raise AssertionError(f"no {pattern} in {self.shown!r}")
-            try:
-                piece = os.read(self._end, 65536)
-            except OSError:
-                piece = b""
-            if not piece:
-                raise AssertionError(f"ended without {pattern} in {self.shown!r}")
-            self.shown += piece.decode()
-
-    def type(self, line: str, prompt: str = r"cjc=> $") -> str:
-        """Types a line, and returns what is shown up to the prompt."""
-        self.send(line + "\r")
-        return self.wait_for(prompt)
-
-    def enter(self, shown: str) -> None:
-        """Enters the line that was edited, whose display may hold the prompt several times, and waits for its answer."""
-        self.send("\r")
-        self.wait_for(shown)
-        self.wait_for(r"cjc=> $")
-
-    def status(self) -> int:
-        """The exit status. What is shown until then is in `shown`."""
-        with contextlib.suppress(AssertionError):
-            self.wait_for(r"\Zx")
-        _, status = os.waitpid(self._process, 0)
-        os.close(self._end)
-        self._process = 0
-        return os.WEXITSTATUS(status) if os.WIFEXITED(status) else -1
-
-    def kill(self) -> None:
-        if self._process:
-            os.kill(self._process, signal.SIGKILL)
-            os.waitpid(self._process, 0)
-            os.close(self._end)
-
-
-class AtTerminal(OverToy):
+class AtTerminal(Shells, OverServer):
     """Line editing, history, prompts, Ctrl-C and Ctrl-D."""
-
-    def setUp(self) -> None:
-        super().setUp()
-        folder = tempfile.TemporaryDirectory()
-        self.addCleanup(folder.cleanup)
-        self.folder = folder.name
-        self.history = os.path.join(folder.name, "history")
-
-    def terminal(self, **more: str) -> Terminal:
-        found = Terminal(["cjc", f"{self.host}:{self.port}", "-U", self.user],
-                         **{"CJC_HISTORY": self.history, "HOME": self.folder, **more})
-        self.addCleanup(found.kill)
-        return found
 
     def test_a_session(self) -> None:
         shell = self.terminal()
@@ -332,55 +227,6 @@ class AtTerminal(OverToy):
         shell.send("\x04")
         self.assertEqual(shell.status(), 0)
 
-    def test_ctrl_c_and_ctrl_d(self) -> None:
-        self.needs_toy()
-        shell = self.terminal(CJC_PASSWORD=self.password, CJC_HISTORY="")
-        shell.wait_for("cjc=> $")
-        shell.type("SELECT 'half", "cjc'> $")
-        shell.send("\x03")
-        shell.wait_for("cjc=> $")
-        event = threading.Event()
-        self.addCleanup(event.set)
-        self.toy.tricks["UPDATE t SET v = 1;"] = toy.waits(event)
-        shell.send("UPDATE t SET v = 1;\r")
-        end = time.monotonic() + PATIENCE
-        while "UPDATE t SET v = 1;" in self.toy.tricks and time.monotonic() < end:
-            time.sleep(0.01)
-        shell.send("\x03")
-        shown = shell.wait_for("cjc=> $")
-        self.assertIn("interrupted", shown)
-        self.assertIn("the outcome isn't known: the UPDATE", shown)
-        self.assertIn("connected again", shown)
-        self.toy.tricks["DELETE FROM t;"] = toy.closes()
-        before = len(self.toy.asked)
-        shown = shell.type("DELETE FROM t;")
-        self.assertRegex(shown, "(?s)outcome isn't known.*connected again")
-        self.assertEqual(self.toy.asked[before:], ["DELETE FROM t;"])
-        shell.type("BEGIN;", r"cjc=\*> $")
-        shell.type("SELECT 'half", r"cjc'\*> $")
-        shell.send("\x04")
-        self.assertEqual(shell.status(), 0)
-        self.assertIn("wasn't sent", shell.shown)
-        self.assertIn("the open transaction is rolled back", shell.shown)
-        self.assertEqual(os.listdir(self.folder), [])
-
-    def test_a_server_that_is_gone(self) -> None:
-        """Each statement tries to connect, and says once that it can't."""
-        self.needs_toy()
-        gone = toy.Toy()
-        shell = Terminal(["cjc", f"127.0.0.1:{gone.port}", "-U", toy.USER], CJC_PASSWORD=toy.PASSWORD)
-        self.addCleanup(shell.kill)
-        shell.wait_for("cjc=> $")
-        gone.close()
-        shown = shell.type("SELECT k FROM t;")
-        self.assertRegex(shown, "(?s)nothing was changed.*can't connect")
-        shown = shell.type("SELECT k FROM t;")
-        self.assertEqual(shown.count("ERROR can't connect"), 1)
-        self.assertEqual(shown.count("ERROR"), 1)
-        shell.type("\\stats")
-        shell.send("\x04")
-        self.assertEqual(shell.status(), 0)
-
     def test_a_file_at_a_terminal(self) -> None:
         path = os.path.join(self.folder, "a.sql")
         with open(path, "w", encoding="utf-8") as file:
@@ -413,5 +259,58 @@ class AtTerminal(OverToy):
                       'logins = ["l0", "l1"] }', shell.shown)
 
 
-WithoutTerminalOverServer = over_server(WithoutTerminal)
-AtTerminalOverServer = over_server(AtTerminal)
+class OverMisbehaving(Shells, OverToy):
+    """A server that closes, says nothing, or is gone."""
+
+    def test_a_lost_connection(self) -> None:
+        self.toy.tricks["UPDATE t SET v = ''"] = toy.closes()
+        status, _, err = self.shell("--keep-going", "-c", "UPDATE t SET v = ''", "-c", "SELECT k FROM t")
+        self.assertEqual((status, err.count("ERROR")), (2, 1))
+        self.assertIn("the outcome isn't known", err)
+
+    def test_ctrl_c_and_ctrl_d(self) -> None:
+        shell = self.terminal(CJC_PASSWORD=self.password, CJC_HISTORY="")
+        shell.wait_for("cjc=> $")
+        shell.type("SELECT 'half", "cjc'> $")
+        shell.send("\x03")
+        shell.wait_for("cjc=> $")
+        event = threading.Event()
+        self.addCleanup(event.set)
+        self.toy.tricks["UPDATE t SET v = 1;"] = toy.waits(event)
+        shell.send("UPDATE t SET v = 1;\r")
+        end = time.monotonic() + PATIENCE
+        while "UPDATE t SET v = 1;" in self.toy.tricks and time.monotonic() < end:
+            time.sleep(0.01)
+        shell.send("\x03")
+        shown = shell.wait_for("cjc=> $")
+        self.assertIn("interrupted", shown)
+        self.assertIn("the outcome isn't known: the UPDATE", shown)
+        self.assertIn("connected again", shown)
+        self.toy.tricks["DELETE FROM t;"] = toy.closes()
+        before = len(self.toy.asked)
+        shown = shell.type("DELETE FROM t;")
+        self.assertRegex(shown, "(?s)outcome isn't known.*connected again")
+        self.assertEqual(self.toy.asked[before:], ["DELETE FROM t;"])
+        shell.type("BEGIN;", r"cjc=\*> $")
+        shell.type("SELECT 'half", r"cjc'\*> $")
+        shell.send("\x04")
+        self.assertEqual(shell.status(), 0)
+        self.assertIn("wasn't sent", shell.shown)
+        self.assertIn("the open transaction is rolled back", shell.shown)
+        self.assertEqual(os.listdir(self.folder), [])
+
+    def test_a_server_that_is_gone(self) -> None:
+        """Each statement tries to connect, and says once that it can't."""
+        gone = toy.Toy()
+        shell = Terminal(["cjc", f"127.0.0.1:{gone.port}", "-U", toy.USER], CJC_PASSWORD=toy.PASSWORD)
+        self.addCleanup(shell.kill)
+        shell.wait_for("cjc=> $")
+        gone.close()
+        shown = shell.type("SELECT k FROM t;")
+        self.assertRegex(shown, "(?s)nothing was changed.*can't connect")
+        shown = shell.type("SELECT k FROM t;")
+        self.assertEqual(shown.count("ERROR can't connect"), 1)
+        self.assertEqual(shown.count("ERROR"), 1)
+        shell.type("\\stats")
+        shell.send("\x04")
+        self.assertEqual(shell.status(), 0)

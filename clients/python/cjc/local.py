@@ -1,0 +1,134 @@
+"""A `cjc serve` of one's own on the loopback interface, for tests and for trying things."""
+from __future__ import annotations
+
+import os
+import queue
+import signal
+import socket
+import subprocess
+import threading
+import time
+from types import TracebackType
+from typing import IO, Optional
+
+from .errors import Error, OperationalError
+
+HOST = "127.0.0.1"
+# A start, an answer and an end take no more seconds.
+PATIENCE = 60.0
+# A command that changes nothing, and its answer, which shows where the answer before it ends.
+_MARK, _MARKED = f"abort {2 ** 64 - 1}", f"refused NotOrphan {2 ** 64 - 1}"
+
+
+def free_port() -> int:
+    """A port of the loopback interface at which nobody listens."""
+    with socket.socket() as probe:
+        probe.bind((HOST, 0))
+        return int(probe.getsockname()[1])
+
+
+class Server:
+    """A server over a configuration file, with its console (docs/CONSOLE.md). It keeps its port from start to start.
+
+    As a context manager it runs within the block, and is killed at its end.
+    """
+
+    def __init__(self, program: str, configuration: str, port: Optional[int] = None) -> None:
+        """Starts nothing yet. The recovery log stands beside the configuration."""
+        self.program, self.configuration = os.path.abspath(program), os.path.abspath(configuration)
+        self.port = free_port() if port is None else port
+        self._process: Optional[subprocess.Popen[str]] = None
+        self._answers: queue.Queue[Optional[str]] = queue.Queue()
+
+    def start(self) -> None:
+        """Starts the server and waits until it listens. Fails with OperationalError where it ends instead."""
+        words = [self.program, "serve", self.configuration, f"{HOST}:{self.port}"]
+        # (signals stay as Python has them, so that a file that may not grow is an error, and not the server's end)
+        process = subprocess.Popen(words, stdin=subprocess.PIPE, stdout=subprocess.PIPE, stderr=subprocess.PIPE,
+                                   text=True, encoding="utf-8", restore_signals=False)
+        assert process.stdout is not None
+        self._process, self._answers = process, queue.Queue()
+        threading.Thread(target=_read, args=(process.stdout, self._answers), daemon=True).start()
+        end = time.monotonic() + PATIENCE
+        while not self._listens():
+            if process.poll() is not None:
+                assert process.stderr is not None
+                said = process.stderr.read().strip()
+                self.kill()
+                raise OperationalError(f"the server ended with status {process.returncode}: {said}")
+            if time.monotonic() > end:
+                self.kill()
+                raise OperationalError(f"the server doesn't listen after {PATIENCE:g} seconds")
+            time.sleep(0.01)
+
+    def ask(self, command: str) -> list[str]:
+        """The lines that the console answers to a command. Fails with OperationalError where it has ended."""
+        process = self._running()
+        assert process.stdin is not None
+        try:
+            process.stdin.write(f"{command}\n{_MARK}\n")
+            process.stdin.flush()
+        except OSError as error:
+            raise OperationalError("the console has ended") from error
+        lines: list[str] = []
+        while not lines or lines[-1] != _MARKED:
+            lines.append(self._line())
+        return lines[:-1]
+
+    def signal(self, number: int) -> None:
+        """Sends the server a signal, as SIGSTOP and SIGCONT."""
+        self._running().send_signal(number)
+
+    @property
+    def pid(self) -> int:
+        """The number of the server's process."""
+        return self._running().pid
+
+    def kill(self) -> None:
+        """Kills the server at once, by SIGKILL. It may be killed already."""
+        process, self._process = self._process, None
+        if process is None:
+            return
+        process.send_signal(signal.SIGKILL)
+        process.wait()
+        for stream in (process.stdin, process.stderr):
+            assert stream is not None
+            stream.close()
+
+    def __enter__(self) -> Server:
+        self.start()
+        return self
+
+    def __exit__(self, _: Optional[type[BaseException]], __: Optional[BaseException],
+                 ___: Optional[TracebackType]) -> None:
+        self.kill()
+
+    def _running(self) -> subprocess.Popen[str]:
+        if self._process is None:
+            raise Error("the server isn't started")
+        return self._process
+
+    def _listens(self) -> bool:
+        try:
+            socket.create_connection((HOST, self.port), 1).close()
+            return True
+        except OSError:
+            return False
+
+    def _line(self) -> str:
+        """The next line of the console."""
+        try:
+            line = self._answers.get(timeout=PATIENCE)
+        except queue.Empty:
+            raise OperationalError(f"the console gave no answer in {PATIENCE:g} seconds") from None
+        if line is None:
+            raise OperationalError("the console has ended")
+        return line
+
+
+def _read(stream: IO[str], answers: queue.Queue[Optional[str]]) -> None:
+    """Puts each line of the console into the queue, and None after the last."""
+    with stream:
+        for line in stream:
+            answers.put(line.rstrip("\n"))
+    answers.put(None)
