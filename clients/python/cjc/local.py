@@ -1,6 +1,7 @@
 """A `cjc serve` of one's own on the loopback interface, for tests and for trying things."""
 from __future__ import annotations
 
+import atexit
 import os
 import queue
 import signal
@@ -30,7 +31,7 @@ def free_port() -> int:
 class Server:
     """A server over a configuration file, with its console (docs/CONSOLE.md). It keeps its port from start to start.
 
-    As a context manager it runs within the block, and is killed at its end.
+    As a context manager it runs within the block, and is killed at its end; else it is at the latest as Python ends.
     """
 
     def __init__(self, program: str, configuration: str, port: Optional[int] = None) -> None:
@@ -48,6 +49,7 @@ class Server:
                                    text=True, encoding="utf-8", restore_signals=False)
         assert process.stdout is not None
         self._process, self._answers = process, queue.Queue()
+        atexit.register(self.kill)
         threading.Thread(target=_read, args=(process.stdout, self._answers), daemon=True).start()
         end = time.monotonic() + PATIENCE
         while not self._listens():
@@ -75,9 +77,21 @@ class Server:
             lines.append(self._line())
         return lines[:-1]
 
-    def signal(self, number: int) -> None:
-        """Sends the server a signal, as SIGSTOP and SIGCONT."""
-        self._running().send_signal(number)
+    def pause(self) -> None:
+        """Stops the server, by SIGSTOP, up to `resume` or `kill`."""
+        process = self._running()
+        process.send_signal(signal.SIGSTOP)
+        # (a thread that waits in a call may still take what comes, until all threads have stopped)
+        os.waitid(os.P_PID, process.pid, os.WSTOPPED)
+
+    def resume(self) -> None:
+        """Lets a paused server go on."""
+        self._running().send_signal(signal.SIGCONT)
+
+    @property
+    def is_running(self) -> bool:
+        """Whether the server was started and not killed since."""
+        return self._process is not None
 
     @property
     def pid(self) -> int:
@@ -91,6 +105,7 @@ class Server:
             return
         process.send_signal(signal.SIGKILL)
         process.wait()
+        atexit.unregister(self.kill)
         for stream in (process.stdin, process.stderr):
             assert stream is not None
             stream.close()

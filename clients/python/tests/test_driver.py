@@ -175,9 +175,11 @@ class Driver(OverServer):
         self.assertEqual(cursor.rowcount, 65536)
         rows = cursor.execute(f"SELECT k FROM {table}").fetchall()
         self.assertEqual(rows, [(n,) for n in range(65536)])
-        with self.assertRaises(cjc.OperationalError) as caught:
-            cursor.execute(f"SELECT k, k FROM {table}")
-        self.assertEqual((caught.exception.code, caught.exception.a), (30, 1 + 2 + 3 + 3 + 4 + 65536 * 18))
+        for statement, code, a in ((f"SELECT k, k FROM {table}", 30, 1 + 2 + 3 + 3 + 4 + 65536 * 18),
+                                   (f"INSERT INTO {table} VALUES (65536), (-1)", 29, 65538)):
+            with self.assertRaises(cjc.OperationalError) as caught:
+                cursor.execute(statement)
+            self.assertEqual((caught.exception.code, caught.exception.a), (code, a))
 
     def test_largest_statement(self) -> None:
         table = self.create("large")

@@ -19,6 +19,8 @@ from cjc.syntax import fault_of
 
 USER, PASSWORD = "ann", "secret"
 MOST = 1_048_576
+# The most rows of a table.
+ROWS_MOST = 65_536
 
 # What a trick does in place of a reply: it gets the socket, and returns whether the session goes on.
 Trick = Callable[[socket.socket], bool]
@@ -152,7 +154,22 @@ class Engine:
             text = text.rstrip("; ") + " WITHOUT ROWID"
             self._execute(text)
             return 0
+        if verb_of(text) == "INSERT":
+            return self._insert(text)
         return max(0, self._execute(text).rowcount) if verb_of(text) in CHANGES else self._execute(text).rowcount and 0
+
+    def _insert(self, text: str) -> int:
+        """Inserts all rows, or none where the table would have too many."""
+        self._base.execute("SAVEPOINT i")
+        try:
+            count = self._execute(text).rowcount
+            (rows,) = self._base.execute(f"SELECT COUNT(*) FROM {table_of(text)}").fetchone()
+            if rows > ROWS_MOST:
+                self._base.execute("ROLLBACK TO i")
+                raise Refusal(29, rows)
+            return count
+        finally:
+            self._base.execute("RELEASE i")
 
     def _execute(self, text: str) -> sqlite3.Cursor:
         """What SQLite says, with its errors as refusals."""
