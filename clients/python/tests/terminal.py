@@ -1,6 +1,7 @@
 """Shells to test: in this process, and at a pseudo terminal of their own."""
 from __future__ import annotations
 
+import codecs
 import contextlib
 import io
 import os
@@ -32,6 +33,8 @@ class Terminal:
 
     def __init__(self, words: list[str], **more: str) -> None:
         self.shown = ""
+        # (a character may come in two pieces)
+        self._decoder = codecs.getincrementaldecoder("utf-8")()
         self._process, self._end = pty.fork()
         if self._process == 0:
             # (who runs the tests in the background may have Ctrl-C ignored)
@@ -57,7 +60,7 @@ class Terminal:
                 piece = b""
             if not piece:
                 raise AssertionError(f"ended without {pattern} in {self.shown!r}")
-            self.shown += piece.decode()
+            self.shown += self._decoder.decode(piece)
 
     def type(self, line: str, prompt: str = r"cjc=> $") -> str:
         """Types a line, and returns what is shown up to the prompt."""

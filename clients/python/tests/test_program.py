@@ -309,7 +309,10 @@ class Used(Shells, OverKilled):
             self.assertIn("interrupted", shown)
         shell.wait_for("connected again")
         shell.wait_for("cjc=> $")
-        self.assertIn("(1 row)", shell.type(f"SELECT * FROM {table};"))
+        # The server may be at the INSERT still.
+        end = time.monotonic() + PATIENCE
+        while "(1 row)" not in shell.type(f"SELECT * FROM {table};"):
+            self.assertLess(time.monotonic(), end, "the INSERT was lost")
         self.quit(shell)
 
     def test_a_restart(self) -> None:
