@@ -44,6 +44,18 @@ class Terminal:
     def send(self, text: str) -> None:
         os.write(self._end, text.encode())
 
+    def interrupt(self) -> None:
+        """Types Ctrl-C once the shell waits. (Python lets one that comes just before wait for the next key.)"""
+        end = time.monotonic() + PATIENCE
+        while self._state() != "S" and time.monotonic() < end:
+            time.sleep(0.005)
+        self.send("\x03")
+
+    def _state(self) -> str:
+        """What the system says the shell does; S is to wait."""
+        with open(f"/proc/{self._process}/stat", encoding="utf-8") as file:
+            return file.read().rpartition(")")[2].split()[0]
+
     def wait_for(self, pattern: str) -> str:
         """What is shown from here up to a match of the pattern."""
         end = time.monotonic() + PATIENCE + 10

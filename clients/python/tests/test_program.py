@@ -304,7 +304,7 @@ class Used(Shells, OverKilled):
         with self.paused():
             shell.send(f"INSERT INTO {table} VALUES (1, 'a');\r")
             self.await_request()
-            shell.send("\x03")
+            shell.interrupt()
             shown = shell.wait_for("INSERT may have been executed")
             self.assertIn("interrupted", shown)
         shell.wait_for("connected again")

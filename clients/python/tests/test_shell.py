@@ -272,7 +272,7 @@ class OverMisbehaving(Shells, OverToy):
         shell = self.terminal(CJC_PASSWORD=self.password, CJC_HISTORY="")
         shell.wait_for("cjc=> $")
         shell.type("SELECT 'half", "cjc'> $")
-        shell.send("\x03")
+        shell.interrupt()
         shell.wait_for("cjc=> $")
         event = threading.Event()
         self.addCleanup(event.set)
@@ -281,7 +281,7 @@ class OverMisbehaving(Shells, OverToy):
         end = time.monotonic() + PATIENCE
         while "UPDATE t SET v = 1;" in self.toy.tricks and time.monotonic() < end:
             time.sleep(0.01)
-        shell.send("\x03")
+        shell.interrupt()
         shown = shell.wait_for("cjc=> $")
         self.assertIn("interrupted", shown)
         self.assertIn("the outcome isn't known: the UPDATE", shown)
