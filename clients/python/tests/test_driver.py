@@ -1,9 +1,7 @@
-"""The driver over a server: every call of PEP 249, values and transactions."""
+"""The driver over a server: values, transactions, refusals and threads. test_pep249 has the calls of that text."""
 from __future__ import annotations
 
-import datetime
 import threading
-import unittest
 from urllib.parse import quote
 
 import cjc
@@ -14,34 +12,6 @@ LOWEST, HIGHEST = -(2 ** 63), 2 ** 63 - 1
 # Quotes, line feeds, characters of one to four bytes, question marks, and what other dialects read as escapes.
 TEXTS = ["", "it's", "''", "a\nb\r\n\tc", "é日本🙂", "what? 'no?' ?", "back\\slash", "--", ";", "NULL", "%_",
          "x" * 4096, "🙂" * 1024, "\u200b\x01\x7f"]
-
-
-class Module(unittest.TestCase):
-    """What the module has."""
-
-    def test_globals(self) -> None:
-        self.assertEqual((cjc.apilevel, cjc.threadsafety, cjc.paramstyle), ("2.0", 1, "qmark"))
-
-    def test_exceptions_are_a_tree(self) -> None:
-        self.assertTrue(issubclass(cjc.Warning, Exception) and issubclass(cjc.Error, Exception))
-        self.assertTrue(issubclass(cjc.InterfaceError, cjc.Error) and issubclass(cjc.DatabaseError, cjc.Error))
-        self.assertFalse(issubclass(cjc.InterfaceError, cjc.DatabaseError))
-        for name in ("DataError", "OperationalError", "IntegrityError", "InternalError", "ProgrammingError",
-                     "NotSupportedError"):
-            self.assertTrue(issubclass(getattr(cjc, name), cjc.DatabaseError))
-            self.assertIs(getattr(cjc.Connection, name), getattr(cjc, name))
-
-    def test_types(self) -> None:
-        self.assertEqual(cjc.Date(2026, 11, 30), datetime.date(2026, 11, 30))
-        self.assertEqual(cjc.Time(1, 2, 3), datetime.time(1, 2, 3))
-        self.assertEqual(cjc.Timestamp(2026, 11, 30, 1), datetime.datetime(2026, 11, 30, 1))
-        self.assertEqual(cjc.DateFromTicks(86400 * 400).year, 1971)
-        self.assertIsInstance(cjc.TimeFromTicks(0), datetime.time)
-        self.assertIsInstance(cjc.TimestampFromTicks(0), datetime.datetime)
-        self.assertEqual(cjc.Binary(b"x"), b"x")
-        kinds = [cjc.STRING, cjc.BINARY, cjc.NUMBER, cjc.DATETIME, cjc.ROWID]
-        self.assertEqual(len(set(map(id, kinds))), 5)
-        self.assertNotEqual(cjc.STRING, cjc.NUMBER)
 
 
 class Driver(OverServer):
