@@ -2,8 +2,10 @@
 from __future__ import annotations
 
 import atexit
+import contextlib
 import os
 import queue
+import random
 import signal
 import socket
 import subprocess
@@ -22,10 +24,12 @@ _MARK, _MARKED = f"abort {2 ** 64 - 1}", f"refused NotOrphan {2 ** 64 - 1}"
 
 
 def free_port() -> int:
-    """A port of the loopback interface at which nobody listens."""
-    with socket.socket() as probe:
-        probe.bind((HOST, 0))
-        return int(probe.getsockname()[1])
+    """A port of the loopback interface that nobody uses. Systems give those above to connections that are opened."""
+    while True:
+        port = random.randrange(10_000, 32_000)
+        with contextlib.suppress(OSError), socket.socket() as probe:
+            probe.bind((HOST, port))
+            return port
 
 
 class Server:
