@@ -10,15 +10,14 @@ import signal
 import socket
 import subprocess
 import threading
-import time
 from types import TracebackType
 from typing import IO, Optional
 
 from .errors import Error, OperationalError
 
 HOST = "127.0.0.1"
-# A start, an answer and an end take no more seconds.
-PATIENCE = 60.0
+# An answer takes no more seconds, and an end that began by itself.
+PATIENCE, _END = 60.0, 5.0
 # A command that changes nothing, and its answer, which shows where the answer before it ends.
 _MARK, _MARKED = f"abort {2 ** 64 - 1}", f"refused NotOrphan {2 ** 64 - 1}"
 
@@ -42,37 +41,38 @@ class Server:
         """Starts nothing yet. The recovery log stands beside the configuration."""
         self.program, self.configuration = os.path.abspath(program), os.path.abspath(configuration)
         self.port = free_port() if port is None else port
-        self._process: Optional[subprocess.Popen[str]] = None
+        self._process: Optional[subprocess.Popen[bytes]] = None
         self._answers: queue.Queue[Optional[str]] = queue.Queue()
 
     def start(self) -> None:
-        """Starts the server and waits until it listens. Fails with OperationalError where it ends instead."""
+        """Starts the server and waits until it serves. Fails with OperationalError where it ends instead."""
+        if self.is_running:
+            raise Error("the server is running")
         words = [self.program, "serve", self.configuration, f"{HOST}:{self.port}"]
         # (signals stay as Python has them, so that a file that may not grow is an error, and not the server's end)
         process = subprocess.Popen(words, stdin=subprocess.PIPE, stdout=subprocess.PIPE, stderr=subprocess.PIPE,
-                                   text=True, encoding="utf-8", restore_signals=False)
-        assert process.stdout is not None
+                                   restore_signals=False)
+        assert process.stdout is not None and process.stderr is not None
         self._process, self._answers = process, queue.Queue()
         atexit.register(self.kill)
         threading.Thread(target=_read, args=(process.stdout, self._answers), daemon=True).start()
-        end = time.monotonic() + PATIENCE
-        while not self._listens():
-            if process.poll() is not None:
-                assert process.stderr is not None
-                said = process.stderr.read().strip()
-                self.kill()
-                raise OperationalError(f"the server ended with status {process.returncode}: {said}")
-            if time.monotonic() > end:
-                self.kill()
-                raise OperationalError(f"the server doesn't listen after {PATIENCE:g} seconds")
-            time.sleep(0.01)
+        try:
+            # The server has its port before it has its console.
+            self.ask("show cache")
+        except OperationalError:
+            with contextlib.suppress(subprocess.TimeoutExpired):
+                process.wait(_END)
+            process.kill()
+            said = process.stderr.read().decode(errors="replace").strip()
+            self.kill()
+            raise OperationalError(f"the server ended with status {process.returncode}: {said}") from None
 
     def ask(self, command: str) -> list[str]:
         """The lines that the console answers to a command. Fails with OperationalError where it has ended."""
         process = self._running()
         assert process.stdin is not None
         try:
-            process.stdin.write(f"{command}\n{_MARK}\n")
+            process.stdin.write(f"{command}\n{_MARK}\n".encode())
             process.stdin.flush()
         except OSError as error:
             raise OperationalError("the console has ended") from error
@@ -112,7 +112,9 @@ class Server:
         atexit.unregister(self.kill)
         for stream in (process.stdin, process.stderr):
             assert stream is not None
-            stream.close()
+            # (a command that the server never took can't be written any more)
+            with contextlib.suppress(OSError):
+                stream.close()
 
     def __enter__(self) -> Server:
         self.start()
@@ -122,17 +124,10 @@ class Server:
                  ___: Optional[TracebackType]) -> None:
         self.kill()
 
-    def _running(self) -> subprocess.Popen[str]:
+    def _running(self) -> subprocess.Popen[bytes]:
         if self._process is None:
             raise Error("the server isn't started")
         return self._process
-
-    def _listens(self) -> bool:
-        try:
-            socket.create_connection((HOST, self.port), 1).close()
-            return True
-        except OSError:
-            return False
 
     def _line(self) -> str:
         """The next line of the console."""
@@ -145,9 +140,9 @@ class Server:
         return line
 
 
-def _read(stream: IO[str], answers: queue.Queue[Optional[str]]) -> None:
+def _read(stream: IO[bytes], answers: queue.Queue[Optional[str]]) -> None:
     """Puts each line of the console into the queue, and None after the last."""
     with stream:
         for line in stream:
-            answers.put(line.rstrip("\n"))
+            answers.put(line.decode().rstrip("\n"))
     answers.put(None)

@@ -270,6 +270,35 @@ class Refused(OverProgram):
             resource.prlimit(self.server.pid, resource.RLIMIT_FSIZE, (most, most))
 
 
+class OfOnesOwn(OverProgram):
+    """What cjc.local says of a server."""
+
+    def test_a_start_that_fails(self) -> None:
+        conf = self.server.configuration
+        for server, words in ((Server(self.server.program, conf, self.port), "status 9: "),
+                              (Server(self.server.program, conf), "status 7: "),
+                              (Server(self.server.program, conf + ".none"), "status 7: "),
+                              (Server(os.devnull, conf), "Permission denied")):
+            with self.assertRaisesRegex((cjc.OperationalError, OSError), words):
+                server.start()
+            self.assertFalse(server.is_running)
+            with self.assertRaisesRegex(cjc.Error, "isn't started"):
+                server.ask("audit")
+        with self.assertRaisesRegex(cjc.Error, "is running"):
+            self.server.start()
+
+    def test_answers(self) -> None:
+        """An answer ends where it ends, whatever its lines hold."""
+        table, text = self.create("answers"), "one\rtwo\nrefused Command\nrefused NotOrphan 1"
+        with self.connect() as one:
+            one.cursor().execute(f"INSERT INTO {table} VALUES (1, ?)", (text,))
+        rows = f"{table} base 1\n1, '{text}'".split("\n")
+        self.assertEqual(self.server.ask("audit"), ["b0 " + rows[0], *rows[1:], "b1 " + rows[0], *rows[1:]])
+        self.assertEqual(self.server.ask("nothing"), ["refused Command"])
+        self.assertEqual(self.server.ask("show log 2 1"), [])
+        self.assertEqual(len(self.server.ask("show backends")), 2)
+
+
 class Used(Shells, OverKilled):
     """What people do with a server."""
 
