@@ -6,7 +6,7 @@ from collections.abc import Iterable, Sequence
 from dataclasses import dataclass
 
 from .errors import DataError, ProgrammingError
-from .literals import encoded, literal
+from .literals import HIGHEST, LOWEST, encoded, literal
 from .wire import STATEMENT_MOST
 
 # The most tuples of an INSERT.
@@ -46,15 +46,20 @@ class Template:
 
     def bind(self, parameters: Sequence[object]) -> str:
         """The text with these parameters. Fails with ProgrammingError, DataError or NotSupportedError."""
-        if len(parameters) != self.count:
-            raise ProgrammingError(f"{self.count} question marks, but {len(parameters)} parameters")
-        if not parameters:
-            return self.pieces[0]
-        parts = [self.pieces[0]]
-        for value, piece in zip(parameters, self.pieces[1:]):
-            parts.append(literal(value))
-            parts.append(piece)
-        return "".join(parts)
+        return self.bind_all((parameters,))[0]
+
+    def bind_all(self, sets: Iterable[object]) -> list[str]:
+        """The text with each of these sets of parameters. Fails as `bind` does."""
+        form = "%s".join(piece.replace("%", "%%") for piece in self.pieces)
+        count, texts = self.count, []
+        for given in sets:
+            parameters = parameters_of(given)
+            if len(parameters) != count:
+                raise ProgrammingError(f"{count} question marks, but {len(parameters)} parameters")
+            # (most values are ints of 64 bits, which are written as they are, without a call for each)
+            texts.append(form % tuple([
+                value if type(value) is int and LOWEST <= value <= HIGHEST else literal(value) for value in parameters]))
+        return texts
 
 
 def template_of(text: str) -> Template:
@@ -110,10 +115,10 @@ def many(text: str, sets: Iterable[object]) -> list[bytes]:
     insert = _INSERT.match(text)
     if insert is None:
         template = template_of(text)
-        return [statement_bytes(template.bind(parameters_of(given))) for given in sets]
+        return [statement_bytes(statement) for statement in template.bind_all(sets)]
     tail = _TAIL_END.sub("", text[insert.end():])
     template = template_of(tail)
-    tuples = [encoded(template.bind(parameters_of(given))) for given in sets]
+    tuples = [encoded(bound) for bound in template.bind_all(sets)]
     return _joined(encoded(insert.group()) + b" ", tuples, max(1, TUPLES_MOST // max(1, _tuples_in(tail))))
 
 
