@@ -170,7 +170,8 @@ class Connection:
 
     def request(self, verb: str, statement: bytes) -> Union[wire.Done, wire.Rows]:
         """Executes a statement whose first word is `verb`, after a BEGIN if it needs one. Cursors use it."""
-        self._check()
+        if self._closed or self._broken:
+            self._check()
         if verb in CHANGES and not self._autocommit and not self._in_transaction:
             self._ask("BEGIN", b"BEGIN")
         return self._ask(verb, statement)

@@ -1,14 +1,17 @@
 """A TCP connection that carries one request and its reply at a time, each exchange within a time limit."""
 from __future__ import annotations
 
+import select
 import socket
 import time
-from typing import Optional
+from collections.abc import Callable
+from typing import Optional, Union
 
 from . import wire
 
-# The room for a reply at first. A longer reply gets a buffer of its own.
-_ROOM = 16_384
+# A reply is taken in one piece of at most so many bytes. A longer one gets a buffer of its length.
+_PIECE = 16_384
+_HEAD = wire.LENGTH.size
 
 
 class LinkError(Exception):
@@ -29,12 +32,12 @@ class Link:
     def __init__(self, host: str, port: int, timeout: Optional[float]) -> None:
         """Connects. Fails with OSError. `timeout` is in seconds, for connecting and for each exchange."""
         self.timeout = timeout
-        self._room = memoryview(bytearray(_ROOM))
         # A server that is full may refuse before it is asked, so the first reply may come early.
         self._is_new = True
         self._socket = socket.create_connection((host, port), timeout)
         self._socket.setsockopt(socket.IPPROTO_TCP, socket.TCP_NODELAY, 1)
         self._socket.setsockopt(socket.SOL_SOCKET, socket.SO_KEEPALIVE, 1)
+        self._has_news = _news_of(self._socket)
 
     def close(self) -> None:
         """Closes the connection. It may be closed already."""
@@ -60,23 +63,11 @@ class Link:
 
     def _limit(self, end: Optional[float]) -> None:
         """Lets the next call of the socket take what is left of the time."""
-        left = None if end is None else end - time.monotonic()
-        if left is not None and left <= 0:
-            raise socket.timeout("timed out")
-        self._socket.settimeout(left)
-
-    def _check_quiet(self) -> None:
-        """Fails if the other side has closed, or has sent what nobody asked for, but before the first request."""
-        if self._is_new:
-            self._is_new = False
-            return
-        self._socket.settimeout(0)
-        try:
-            if self._socket.recv(1, socket.MSG_PEEK):
-                raise GarbageError("the server sent bytes that nobody asked for", sent=False)
-        except BlockingIOError:
-            return
-        raise LinkError("the server had closed the connection", sent=False)
+        if end is not None:
+            left = end - time.monotonic()
+            if left <= 0:
+                raise socket.timeout("timed out")
+            self._socket.settimeout(left)
 
     def _send(self, request: bytes, end: Optional[float]) -> None:
         try:
@@ -87,33 +78,68 @@ class Link:
             late = f"sending took longer than {self.timeout} seconds"
             raise LinkError(_said(error, late, "sending failed"), sent=False) from error
 
+    def _check_quiet(self) -> None:
+        """Fails if the other side has closed, or has sent what nobody asked for, but before the first request."""
+        if self._is_new:
+            self._is_new = False
+        elif self._has_news():
+            if self._socket.recv(1, socket.MSG_PEEK):
+                raise GarbageError("the server sent bytes that nobody asked for", sent=False)
+            raise LinkError("the server had closed the connection", sent=False)
+
     def _receive(self, end: Optional[float]) -> wire.Reply:
         try:
-            room, have = self._room, self._fill(self._room, 0, wire.LENGTH.size, end)
-            total = wire.LENGTH.size + wire.body_length(room)
-            if total > len(room):
-                room = memoryview(bytearray(total))
-                room[:have] = self._room[:have]
-            have = self._fill(room, have, total, end)
-            if have > total:
+            data: Union[bytes, memoryview] = self._begin(end)
+            total = _HEAD + wire.body_length(data)
+            if len(data) < total:
+                data = self._whole(data, total, end)
+            elif len(data) > total:
                 raise GarbageError("the server sent bytes after its reply", sent=True)
-            return wire.reply(room[wire.LENGTH.size:total])
+            return wire.reply(data, _HEAD)
         except wire.Malformed as error:
             raise GarbageError(f"the server sent {error}", sent=True) from None
         except OSError as error:
             late = f"no whole reply came within {self.timeout} seconds"
             raise LinkError(_said(error, late, "receiving failed"), sent=True) from error
 
-    def _fill(self, room: memoryview, have: int, wanted: int, end: Optional[float]) -> int:
-        """Receives into the room until it has the wanted bytes or more, and returns how many it has."""
-        while have < wanted:
+    def _begin(self, end: Optional[float]) -> bytes:
+        """The first piece of a reply, which has at least its length. Most replies are then whole."""
+        data = b""
+        while len(data) < _HEAD:
+            self._limit(end)
+            piece = self._socket.recv(_PIECE)
+            if not piece:
+                raise _closed(len(data))
+            data += piece
+        return data
+
+    def _whole(self, data: Union[bytes, memoryview], total: int, end: Optional[float]) -> memoryview:
+        """The reply of so many bytes that begins with these. The rest is received where it then stands."""
+        room, have = memoryview(bytearray(total)), len(data)
+        room[:have] = data
+        while have < total:
             self._limit(end)
             count = self._socket.recv_into(room[have:])
             if count == 0:
-                where = "in the middle of a reply" if have else "before it replied"
-                raise LinkError(f"the server closed the connection {where}", sent=True)
+                raise _closed(have)
             have += count
-        return have
+        return room
+
+
+def _news_of(one: socket.socket) -> Callable[[], object]:
+    """A function that looks, without a wait, whether a socket has bytes to read, or has ended."""
+    if not hasattr(select, "poll"):
+        # Windows. (Elsewhere `select` takes no socket of a high number.)
+        return lambda: select.select([one], [], [], 0)[0]
+    poll = select.poll()
+    poll.register(one, select.POLLIN)
+    return lambda: poll.poll(0)
+
+
+def _closed(have: int) -> LinkError:
+    """The error of a connection that ended after so many bytes of a reply."""
+    where = "in the middle of a reply" if have else "before it replied"
+    return LinkError(f"the server closed the connection {where}", sent=True)
 
 
 def _said(error: OSError, late: str, failed: str) -> str:
