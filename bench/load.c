@@ -1,8 +1,8 @@
 /* A load of one kind of request over TCP, and an echo with a thread a connection to compare a server with.
  *
  * usage: load echo PORT REPLY_BYTES                       answers each frame with a frame of so many bytes
- *        load ask PORT CLIENTS SECONDS READS WRITES       logs CLIENTS in; of each READS + WRITES clients READS read and WRITES write;
- *                                                         prints the reads and the writes a second
+ *        load ask PORT CLIENTS SECONDS READS WRITES KEYS  logs CLIENTS in; of each READS + WRITES clients READS read and WRITES write,
+ *                                                         at random keys below KEYS; prints the reads and the writes a second
  * A frame is four bytes of length, and as many bytes. */
 #include <arpa/inet.h>
 #include <netinet/tcp.h>
@@ -15,9 +15,9 @@
 #include <time.h>
 #include <unistd.h>
 
-enum { ROWS = 65536, MOST = 1 << 16 };
+enum { MOST = 1 << 16 };
 
-static int port_number, reply_bytes;
+static int port_number, reply_bytes, keys;
 static volatile int stopped;
 
 static void fail(const char *what)
@@ -109,7 +109,7 @@ struct client {
 
 static size_t statement(struct client *client, unsigned char *frame)
 {
-	int key = (int)(rand_r(&client->seed) % ROWS);
+	int key = (int)(rand_r(&client->seed) % (unsigned)keys);
 	int length = sprintf((char *)frame + 5, client->writes ? "UPDATE t SET v = v + 1 WHERE k = %d" : "SELECT v FROM t WHERE k = %d", key);
 	put_length(frame, (size_t)length + 1);
 	frame[4] = 2;
@@ -181,9 +181,10 @@ int main(int count, char **words)
 		reply_bytes = atoi(words[3]);
 		serve_echo();
 	}
-	if (count != 7 || strcmp(words[1], "ask"))
+	if (count != 8 || strcmp(words[1], "ask"))
 		return 2;
 	port_number = atoi(words[2]);
+	keys = atoi(words[7]);
 	load(atoi(words[3]), atof(words[4]), atoi(words[5]), atoi(words[6]));
 	return 0;
 }
