@@ -89,6 +89,8 @@ def query(statement: bytes) -> bytes:
 
 def body_length(head: Union[bytes, memoryview]) -> int:
     """The length that the first four bytes of a frame give. Fails with Malformed if no frame has it."""
+    if len(head) < LENGTH.size:
+        raise Malformed(f"a frame of {len(head)} bytes")
     (length,) = LENGTH.unpack_from(head)
     if not 1 <= length <= MOST:
         raise Malformed(f"a frame of {length} bytes")
