@@ -41,7 +41,7 @@ class _Run(argparse.Action):
 
 
 def _parser() -> argparse.ArgumentParser:
-    words = _Parser(prog="python3 -m cjc", description="A shell for cjc, which connects to `cjc serve CONF HOST:PORT`.",
+    words = _Parser(prog="python3 -m cjc", description="A shell for cjc, which connects to a server, `cjc serve CONF ADDR`.",
                     epilog=_EPILOG, formatter_class=argparse.RawDescriptionHelpFormatter)
     words.add_argument("server", metavar="HOST:PORT", help="the server, or cjc://user@host:port")
     words.add_argument("-U", "--user", help="the user; else that of the URL, or CJC_USER")

@@ -90,7 +90,7 @@ class Connection:
         except OSError as error:
             raise OperationalError(
                 f"can't connect to {address}: {error.strerror or error}",
-                advice="Check host and port, and that `cjc serve` runs there.") from error
+                advice="Check host and port, and that `cjc serve CONF ADDR` runs there.") from error
         reply = self._exchange(wire.login(user, password), "LOGIN")
         if not isinstance(reply, wire.Done):
             self._link.close()
@@ -231,7 +231,7 @@ class Connection:
         kind = InterfaceError if isinstance(error, GarbageError) else OperationalError
         advice = "Open a new connection."
         if verb == "LOGIN":
-            return kind(str(error), advice="Check that a `cjc serve` listens there, and how many sessions are open.")
+            return kind(str(error), advice="Check that `cjc serve CONF ADDR` listens there, and how many sessions are open.")
         outcome = outcome_of(verb, error.sent, inside)
         if outcome.is_unknown:
             advice += " Look whether the change was made before you repeat it."
@@ -254,4 +254,4 @@ class Connection:
         outcome = outcome_of(verb, True, self._in_transaction)
         self._break("the server sent a reply to another request")
         raise InterfaceError(f"the server sent {type(reply).__name__}, which is no reply to {verb}; {outcome.said}",
-                             advice="Open a new connection, to a `cjc serve`.", outcome_unknown=outcome.is_unknown)
+                             advice="Open a new connection, to a `cjc serve CONF ADDR`.", outcome_unknown=outcome.is_unknown)
