@@ -85,7 +85,7 @@ def _run(shell: Shell, runs: Sequence[tuple[str, str]]) -> int:
 
 def _session(given: argparse.Namespace) -> int:
     """Connects, runs what is given or typed, and closes. Returns the exit status."""
-    address, timeout = _address(given), given.timeout if given.timeout > 0 else None
+    address, timeout = _address(given), None if given.timeout == 0 else given.timeout
     interactive = not given.runs and sys.stdin.isatty() and sys.stdout.isatty()
     options = Options(interactive, given.keep_going, given.csv, False, given.quiet)
     shell = Shell(lambda: Connection(address, timeout, autocommit=True), options, sys.stdout, sys.stderr)

@@ -12,8 +12,8 @@ from .errors import Error, InterfaceError, OperationalError, ProgrammingError
 from .link import GarbageError, Link, LinkError
 from .statements import CHANGES, ENDS, SCHEMA
 
-# Seconds for connecting, and for each request with its reply.
-TIMEOUT = 30.0
+# Seconds for connecting, and for each request with its reply; and the most that systems take.
+TIMEOUT, _TIMEOUT_MOST = 30.0, 1_000_000_000
 
 
 @dataclass(frozen=True)
@@ -46,6 +46,8 @@ def connect(
     Fails with InterfaceError where an argument is wrong, and with OperationalError where the server can't be
     reached or refuses the login.
     """
+    if not isinstance(host, str):
+        raise InterfaceError("a host is a text")
     if host.startswith(SCHEME):
         if port is not None:
             raise InterfaceError("a URL has the port already")
@@ -54,8 +56,6 @@ def connect(
         raise InterfaceError("a connection needs a port")
     else:
         address = checked(Address(host, port))
-    if timeout is not None and not timeout > 0:
-        raise InterfaceError("a timeout is a number of seconds above 0, or None")
     return Connection(with_login(address, user, password), timeout, autocommit)
 
 
@@ -85,11 +85,14 @@ class Connection:
         self._closed = False
         self._broken = ""
         user, password = address.login()
+        if timeout is not None and not (isinstance(timeout, (int, float)) and 0 < timeout <= _TIMEOUT_MOST):
+            raise InterfaceError("a timeout is a number of seconds above 0, or None")
         try:
             self._link = Link(address.host, address.port, timeout)
-        except OSError as error:
+        except (OSError, UnicodeError) as error:
+            # (a UnicodeError is that of a host that can't be a name)
             raise OperationalError(
-                f"can't connect to {address}: {error.strerror or error}",
+                f"can't connect to {address}: {getattr(error, 'strerror', None) or error}",
                 advice="Check host and port, and that `cjc serve CONF ADDR` runs there.") from error
         reply = self._exchange(wire.login(user, password), "LOGIN")
         if not isinstance(reply, wire.Done):
