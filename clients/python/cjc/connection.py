@@ -176,8 +176,17 @@ class Connection:
         if self._closed or self._broken:
             self._check()
         if verb in CHANGES and not self._autocommit and not self._in_transaction:
-            self._ask("BEGIN", b"BEGIN")
-        return self._ask(verb, statement)
+            self.request("BEGIN", b"BEGIN")
+        reply = self._exchange(wire.query(statement), verb)
+        if isinstance(reply, wire.Refused):
+            if verb in ENDS and reply.code in refusals.UNSETTLED:
+                self._in_transaction = False
+            self._refuse(reply, statement)
+        if not isinstance(reply, wire.Rows if verb == "SELECT" else wire.Done):
+            self._mismatch(reply, verb)
+        if verb == "BEGIN" or verb in ENDS:
+            self._in_transaction = verb == "BEGIN"
+        return reply
 
     def __enter__(self) -> Connection:
         self._check()
@@ -199,19 +208,6 @@ class Connection:
             raise InterfaceError("the connection is closed")
         if self._broken:
             raise OperationalError(f"the connection broke before ({self._broken})", advice="Open a new connection.")
-
-    def _ask(self, verb: str, statement: bytes) -> Union[wire.Done, wire.Rows]:
-        """The reply to one statement. It keeps account of the transaction."""
-        reply = self._exchange(wire.query(statement), verb)
-        if isinstance(reply, wire.Refused):
-            if verb in ENDS and reply.code in refusals.UNSETTLED:
-                self._in_transaction = False
-            self._refuse(reply, statement)
-        if not isinstance(reply, wire.Rows if verb == "SELECT" else wire.Done):
-            self._mismatch(reply, verb)
-        if verb == "BEGIN" or verb in ENDS:
-            self._in_transaction = verb == "BEGIN"
-        return reply
 
     def _exchange(self, request: bytes, verb: str) -> wire.Reply:
         """The reply to a request, which is sent once. Where that fails the connection is broken."""

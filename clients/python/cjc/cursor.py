@@ -3,12 +3,12 @@ from __future__ import annotations
 
 from collections.abc import Iterable, Iterator, Sequence
 from types import TracebackType
-from typing import TYPE_CHECKING, Optional, Union
+from typing import TYPE_CHECKING, Optional
 
 from .errors import InterfaceError, NotSupportedError, ProgrammingError
 from .kinds import NUMBER, STRING, TypeObject
 from .statements import CHANGES, many, statement_bytes, template_of, verb_of
-from .wire import Done, Rows, Value
+from .wire import Rows, Value
 
 if TYPE_CHECKING:
     from .connection import Connection
@@ -43,8 +43,11 @@ class Cursor:
         """
         self._reset()
         template = template_of(operation)
-        statement = statement_bytes(template.bind(parameters))
-        self._take(template.verb, self.connection.request(template.verb, statement))
+        reply = self.connection.request(template.verb, statement_bytes(template.bind(parameters)))
+        if isinstance(reply, Rows):
+            self._names, self._rows, self.rowcount = reply.names, reply.rows, len(reply.rows)
+        elif template.verb in CHANGES:
+            self.rowcount = reply.count
         return self
 
     def executemany(self, operation: str, seq_of_parameters: Iterable[Sequence[object]]) -> Cursor:
@@ -143,8 +146,7 @@ class Cursor:
 
     def close(self) -> None:
         """Lets the rows go. Each later call fails with InterfaceError."""
-        self._forget()
-        self._closed = True
+        self.rowcount, self._rows, self._closed = -1, None, True
 
     def __enter__(self) -> Cursor:
         return self
@@ -159,23 +161,13 @@ class Cursor:
         if self._closed:
             raise InterfaceError("the cursor is closed")
 
-    def _forget(self) -> None:
+    def _reset(self) -> None:
+        """Forgets the last result, before a new statement."""
+        self._check()
         self.rowcount, self._rows, self._next = -1, None, 0
 
-    def _reset(self) -> None:
-        """Forgets the last result before a new statement."""
-        self._check()
-        self._forget()
-
     def _result(self) -> list[Row]:
-        self._check()
         if self._rows is None:
+            self._check()
             raise ProgrammingError("there are no rows: the last statement was no SELECT, or there was none")
         return self._rows
-
-    def _take(self, verb: str, reply: Union[Done, Rows]) -> None:
-        """Keeps the reply to a statement."""
-        if isinstance(reply, Rows):
-            self._names, self._rows, self.rowcount = reply.names, reply.rows, len(reply.rows)
-        elif verb in CHANGES:
-            self.rowcount = reply.count

@@ -37,7 +37,9 @@ class Link:
         self._socket = socket.create_connection((host, port), timeout)
         self._socket.setsockopt(socket.IPPROTO_TCP, socket.TCP_NODELAY, 1)
         self._socket.setsockopt(socket.SOL_SOCKET, socket.SO_KEEPALIVE, 1)
-        self._has_news = _news_of(self._socket)
+        # The socket itself never waits.
+        self._socket.setblocking(False)
+        self._poll = _poll_of(self._socket)
 
     def close(self) -> None:
         """Closes the connection. It may be closed already."""
@@ -46,7 +48,7 @@ class Link:
     def exchange(self, request: bytes) -> wire.Reply:
         """Sends a request once and returns its reply. Fails with LinkError."""
         try:
-            end = None if self.timeout is None else time.monotonic() + self.timeout
+            end = self._end()
             self._send(request, end)
             return self._receive(end)
         except BaseException:
@@ -57,35 +59,37 @@ class Link:
     def send_last(self, request: bytes) -> None:
         """Sends a request that has no reply, and closes. Fails with LinkError."""
         try:
-            self._send(request, None if self.timeout is None else time.monotonic() + self.timeout)
+            self._send(request, self._end())
         finally:
             self.close()
 
-    def _limit(self, end: Optional[float]) -> None:
-        """Lets the next call of the socket take what is left of the time."""
-        if end is not None:
-            left = end - time.monotonic()
-            if left <= 0:
-                raise socket.timeout("timed out")
-            self._socket.settimeout(left)
+    def _end(self) -> Optional[float]:
+        """The moment at which an exchange that begins now is late."""
+        return None if self.timeout is None else time.monotonic() + self.timeout
 
     def _send(self, request: bytes, end: Optional[float]) -> None:
         try:
-            self._check_quiet()
-            self._limit(end)
-            self._socket.sendall(request)
+            if self._poll(0) and not self._is_new:
+                self._fail_early()
+            self._is_new = False
+            sent = self._socket.send(request)
+            if sent < len(request):
+                self._send_rest(memoryview(request)[sent:], end)
         except OSError as error:
             late = f"sending took longer than {self.timeout} seconds"
             raise LinkError(_said(error, late, "sending failed"), sent=False) from error
 
-    def _check_quiet(self) -> None:
-        """Fails if the other side has closed, or has sent what nobody asked for, but before the first request."""
-        if self._is_new:
-            self._is_new = False
-        elif self._has_news():
-            if self._socket.recv(1, socket.MSG_PEEK):
-                raise GarbageError("the server sent bytes that nobody asked for", sent=False)
-            raise LinkError("the server had closed the connection", sent=False)
+    def _fail_early(self) -> None:
+        """Fails where the other side has closed, or has sent what nobody asked for."""
+        if self._socket.recv(1, socket.MSG_PEEK):
+            raise GarbageError("the server sent bytes that nobody asked for", sent=False)
+        raise LinkError("the server had closed the connection", sent=False)
+
+    def _send_rest(self, rest: memoryview, end: Optional[float]) -> None:
+        """Sends what there was no room for at once."""
+        self._socket.settimeout(None if end is None else _left(end))
+        self._socket.sendall(rest)
+        self._socket.setblocking(False)
 
     def _receive(self, end: Optional[float]) -> wire.Reply:
         try:
@@ -106,7 +110,7 @@ class Link:
         """The first piece of a reply, which has at least its length. Most replies are then whole."""
         data = b""
         while len(data) < _HEAD:
-            self._limit(end)
+            self._await_bytes(end)
             piece = self._socket.recv(_PIECE)
             if not piece:
                 raise _closed(len(data))
@@ -118,22 +122,35 @@ class Link:
         room, have = memoryview(bytearray(total)), len(data)
         room[:have] = data
         while have < total:
-            self._limit(end)
+            self._await_bytes(end)
             count = self._socket.recv_into(room[have:])
             if count == 0:
                 raise _closed(have)
             have += count
         return room
 
+    def _await_bytes(self, end: Optional[float]) -> None:
+        """Waits until there are bytes to receive, or the other side has closed."""
+        if not self._poll(None if end is None else 1000 * _left(end)):
+            raise socket.timeout("timed out")
 
-def _news_of(one: socket.socket) -> Callable[[], object]:
-    """A function that looks, without a wait, whether a socket has bytes to read, or has ended."""
+
+def _left(end: float) -> float:
+    """The seconds up to this moment. Fails with socket.timeout where there are none."""
+    left = end - time.monotonic()
+    if left <= 0:
+        raise socket.timeout("timed out")
+    return left
+
+
+def _poll_of(one: socket.socket) -> Callable[[Optional[float]], object]:
+    """A function that waits for so many milliseconds until a socket can be read, or for ever, and says whether it can."""
     if not hasattr(select, "poll"):
         # Windows. (Elsewhere `select` takes no socket of a high number.)
-        return lambda: select.select([one], [], [], 0)[0]
+        return lambda most: select.select([one], [], [], None if most is None else most / 1000)[0]
     poll = select.poll()
     poll.register(one, select.POLLIN)
-    return lambda: poll.poll(0)
+    return poll.poll
 
 
 def _closed(have: int) -> LinkError:

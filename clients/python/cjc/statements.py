@@ -51,10 +51,11 @@ class Template:
         parameters = parameters_of(given)
         if len(parameters) != self.count:
             raise ProgrammingError(f"{self.count} question marks, but {len(parameters)} parameters")
+        if not parameters:
+            return self._form
         # (most values are ints of 64 bits, which are written as they are, without a call for each)
         return self._form % tuple([
-            value if type(value) is int and LOWEST <= value <= HIGHEST else literal(value) for value in parameters
-        ]) if parameters else self._form
+            value if type(value) is int and LOWEST <= value <= HIGHEST else literal(value) for value in parameters])
 
 
 def template_of(text: str) -> Template:
