@@ -12,8 +12,8 @@ from .errors import Error, InterfaceError, OperationalError, ProgrammingError
 from .link import GarbageError, Link, LinkError
 from .statements import CHANGES, ENDS, SCHEMA
 
-# Seconds for connecting, and for each request with its reply; and the most that systems take.
-TIMEOUT, _TIMEOUT_MOST = 30.0, 1_000_000_000
+# Seconds for connecting, and for each request with its reply. (Systems count milliseconds in 32 bits.)
+TIMEOUT, _TIMEOUT_MOST = 30.0, 1_000_000.0
 
 
 @dataclass(frozen=True)
@@ -86,7 +86,7 @@ class Connection:
         self._broken = ""
         user, password = address.login()
         if timeout is not None and not (isinstance(timeout, (int, float)) and 0 < timeout <= _TIMEOUT_MOST):
-            raise InterfaceError("a timeout is a number of seconds above 0, or None")
+            raise InterfaceError("a timeout is a number of seconds above 0, at most 1,000,000, or None")
         try:
             self._link = Link(address.host, address.port, timeout)
         except (OSError, UnicodeError) as error:

@@ -31,9 +31,11 @@ class Driver(OverServer):
                           (None,), ("localhost", self.port, b"a", "b"), ("localhost", self.port, "a", 5)):
             with self.assertRaises(cjc.InterfaceError):
                 cjc.connect(*arguments)
-        for timeout in (0, -1, float("nan"), float("inf"), 1e10, "5"):
+        for timeout in (0, -1, float("nan"), float("inf"), 1_000_001, "5"):
             with self.assertRaises(cjc.InterfaceError):
                 cjc.connect("localhost", self.port, "a", "b", timeout=timeout)
+        for timeout in (1_000_000, 60, None):
+            self.assertIsNone(self.connect(timeout=timeout).commit())
         for host in ("a" * 70, "a..b", "xn--\u00e9"):
             with self.assertRaisesRegex(cjc.OperationalError, "can't connect to"):
                 cjc.connect(host, self.port, "a", "b")
