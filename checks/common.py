@@ -2,7 +2,6 @@
 import os
 import select
 import shutil
-import struct
 import subprocess
 import sys
 import tempfile
@@ -12,6 +11,8 @@ sys.dont_write_bytecode = True
 sys.path.insert(0, os.path.join(os.path.dirname(os.path.dirname(os.path.abspath(__file__))), "tools"))
 import build
 import frames
+from cjc import wire
+from frames import session
 
 # A reply, and an end, has to come within so many seconds.
 PATIENCE = 20
@@ -31,11 +32,6 @@ class Ended(Failed):
 def expect(what, got, wanted):
     if got != wanted:
         raise Failed(f"{what}\n  wanted {wanted!r}\n  got    {got!r}")
-
-
-def session(*lines):
-    """The frames of these requests."""
-    return b"".join(frames.frame(line.encode()) for line in lines)
 
 
 def start(words, **more):
@@ -63,20 +59,20 @@ class Client:
 
     def ask(self, line):
         """The reply to a request, which is sent in two pieces."""
-        sent = session(line)
+        sent = frames.frame(line)
         try:
             self.given.write(sent[:3])
             self.given.write(sent[3:])
         except BrokenPipeError:
             raise Ended("the program ended before it took a request") from None
-        return frames.reply(self.take(struct.unpack(">I", self.take(4))[0]))
+        return frames.reply(self.take(wire.body_length(self.take(wire.LENGTH.size))))
 
     def expect(self, line, wanted):
         expect(f"> {line}", self.ask(line), wanted)
 
     def quit(self):
         """Sends Quit, which has no reply and ends the program, though its input stays open."""
-        self.given.write(session("QUIT"))
+        self.given.write(frames.frame("QUIT"))
         self.ends("at QUIT")
 
     def close(self):
@@ -110,6 +106,6 @@ def check(name, look):
             os.chmod(path, 0o755)
         try:
             told = look(program, folder)
-        except (Failed, OSError, ValueError, TypeError, struct.error, subprocess.SubprocessError) as error:
+        except (Failed, OSError, ValueError, TypeError, subprocess.SubprocessError) as error:
             sys.exit(f"checks/{name}: {error}")
     print(f"checks/{name}: {told}", file=sys.stderr)

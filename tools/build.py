@@ -4,6 +4,7 @@ import re
 import select
 import subprocess
 import sys
+import tempfile
 import time
 
 ROOT = os.path.dirname(os.path.dirname(os.path.abspath(__file__)))
@@ -47,20 +48,31 @@ def lines_of(stream):
         yield from (line.decode(errors="replace") for line in lines)
 
 
-def program():
-    """The path of the program, which rt has proved and built. It ends this run where rt can't."""
-    names, start, now, last = crates(), time.monotonic(), "a first look at the sources", []
+def clock():
+    """A function that prints a line behind the time since now."""
+    start = time.monotonic()
 
     def say(text):
         minutes, seconds = divmod(int(time.monotonic() - start), 60)
         print(f"  {minutes:3}:{seconds:02}  {text}", file=sys.stderr, flush=True)
 
-    say(f"proving and building the program, {len(names)} crates; the first time this takes many minutes")
+    return say
+
+
+def started(words, **more):
+    """A run of rt with these words in the program's crate. It ends this run where there is no rt."""
     try:
-        rt = subprocess.Popen(["rt", "run", "--", "pipe", CONF], cwd=CRATE, stdin=subprocess.DEVNULL,
-                              stdout=subprocess.PIPE, stderr=subprocess.STDOUT)
+        return subprocess.Popen(["rt", *words], cwd=CRATE, **more)
     except FileNotFoundError:
         sys.exit("no command `rt` on the PATH: it comes with the Rattle kit, in its folder bin/")
+
+
+def program():
+    """The path of the program, which rt has proved and built. It ends this run where rt can't."""
+    names, say, now, last = crates(), clock(), "a first look at the sources", []
+    say(f"proving and building the program, {len(names)} crates: over an hour where nothing is kept of them, on four processors")
+    say("(./demo --unproved shows a session in minutes, without proofs)")
+    rt = started(["run", "--", "pipe", CONF], stdin=subprocess.DEVNULL, stdout=subprocess.PIPE, stderr=subprocess.STDOUT)
     for line in lines_of(rt.stdout):
         if line is None:
             say(f"{now} ..")
@@ -77,3 +89,28 @@ def program():
         sys.exit("\n".join(["rt run failed in crates/cjc:", *last]))
     say("built")
     return PROGRAM
+
+
+def run_unproved(words, data, files):
+    """What the program writes on these words and this input, and its status, as `rt try` builds and runs it: with checks in place of proofs.
+
+    It runs in a folder of its own with copies of these files, paths by their names there. It ends this run where rt can't run it.
+    """
+    say, last = clock(), []
+    say("building the program without its proofs, which takes some minutes; nothing is proved of what it shows")
+    given = [word for name, path in files.items() for word in ("--data", f"{name}={os.path.abspath(path)}")]
+    with tempfile.TemporaryFile() as source, tempfile.TemporaryFile() as written:
+        source.write(data)
+        source.seek(0)
+        rt = started(["try", "cjc", *given, "--", *words], stdin=source, stdout=written, stderr=subprocess.PIPE)
+        for line in lines_of(rt.stderr):
+            if line is None:
+                say("building ..")
+            else:
+                last = [*last, line][-LAST:]
+        ended = re.search(r"^run=ended status=(\d+) ", "\n".join(last), re.MULTILINE)
+        rt.wait()
+        if ended is None:
+            sys.exit("\n".join(["rt try failed in crates/cjc:", *last]))
+        written.seek(0)
+        return written.read(), int(ended[1])

@@ -1,70 +1,52 @@
-"""Requests as frames and replies in words, by docs/FORMATS.md, for the programs that talk to `cjc pipe`.
+"""Requests as lines and replies in words, for the programs that talk to `cjc` by frames. The frames are those of the package in clients/python.
 
-A line is LOGIN USER PASSWORD, STATS, QUIT or a statement of SQL.
+A line is LOGIN USER PASSWORD, STATS, QUIT or a statement of SQL, as a text or as bytes.
 """
-import struct
+import os
+import sys
 
-NAMES = {
-    1: "BadFrame", 2: "NotLoggedIn", 3: "BadLogin", 4: "AlreadyLoggedIn", 10: "Syntax", 11: "InTransaction", 12: "NoTransaction",
-    13: "SchemaInTransaction", 20: "NoBackend", 21: "NoTable", 22: "TableExists", 23: "NoColumn", 24: "BadColumns", 25: "Locked",
-    26: "Overflow", 27: "Duplicate", 28: "WrongType", 29: "RowsFull", 30: "TooLarge", 40: "Unfinished", 41: "ReadFault",
-    42: "LogFault", 43: "NoMemory", 44: "StarvedAll", 45: "HistoryFull", 46: "SessionsFull",
-}
-
-
-def text16(text):
-    return struct.pack(">H", len(text)) + text
-
-
-def body(line):
-    """The kind and the payload of a request."""
-    if line.startswith(b"LOGIN "):
-        _, user, password = line.split(b" ")
-        return b"\x01" + text16(user) + text16(password)
-    if line == b"STATS":
-        return b"\x03"
-    if line == b"QUIT":
-        return b"\x04"
-    return b"\x02" + line
+sys.path.insert(0, os.path.join(os.path.dirname(os.path.dirname(os.path.abspath(__file__))), "clients", "python"))
+from cjc import refusals, wire
+from cjc.literals import quoted
 
 
 def frame(line):
-    """A request's frame."""
-    return struct.pack(">I", len(body(line))) + body(line)
+    """The frame of a request."""
+    line = line.encode() if isinstance(line, str) else line
+    if line.startswith(b"LOGIN "):
+        _, user, password = line.split(b" ")
+        return wire.login(user, password)
+    if line == b"STATS":
+        return wire.frame(wire.STATS)
+    if line == b"QUIT":
+        return wire.frame(wire.QUIT)
+    return wire.query(line)
 
 
-class Reader:
-    """Bytes that are taken from the front."""
+def session(*lines):
+    """The frames of these requests."""
+    return b"".join(map(frame, lines))
 
-    def __init__(self, data):
-        self.data, self.at = data, 0
 
-    def take(self, count):
-        piece = self.data[self.at:self.at + count]
-        self.at += count
-        return piece
-
-    def number(self, form):
-        return struct.unpack(form, self.take(struct.calcsize(form)))[0]
-
-    def value(self):
-        if self.take(1) == b"\x01":
-            return str(self.number(">q"))
-        text = self.take(self.number(">I")).decode()
-        return "'" + text.replace("'", "''") + "'"
+def split(data):
+    """The frames of these bytes, each without its length. Fails with wire.Malformed at one that is cut."""
+    at = 0
+    while at < len(data):
+        start = at + wire.LENGTH.size
+        at = start + wire.body_length(data[at:start])
+        if at > len(data):
+            raise wire.Malformed("a frame that is cut")
+        yield data[start:at]
 
 
 def reply(data):
-    """A reply in words, line by line, of its frame without the length."""
-    r = Reader(data)
-    kind = r.number(">B")
-    if kind == 0x81:
-        return [f"done {r.number('>Q')}"]
-    if kind == 0x82:
-        names = [r.take(r.number(">H")).decode() for _ in range(r.number(">H"))]
-        rows = [[r.value() for _ in names] for _ in range(r.number(">I"))]
-        return [f"{len(rows)} rows of {', '.join(names)}"] + ["  " + ", ".join(row) for row in rows]
-    if kind == 0x83:
-        return [f"hits {r.number('>Q')}, misses {r.number('>Q')}"]
-    code, a, b = r.number(">H"), r.number(">Q"), r.number(">Q")
-    return [f"refused {code} {NAMES.get(code, '')} {a} {b}"]
+    """A reply in words, line by line, of its frame without the length. Fails with wire.Malformed."""
+    found = wire.reply(data)
+    if isinstance(found, wire.Done):
+        return [f"done {found.count}"]
+    if isinstance(found, wire.Rows):
+        rows = [", ".join(quoted(value) if isinstance(value, str) else str(value) for value in row) for row in found.rows]
+        return [f"{len(rows)} rows of {', '.join(found.names)}"] + ["  " + row for row in rows]
+    if isinstance(found, wire.Stats):
+        return [f"hits {found.hits}, misses {found.misses}"]
+    return [f"refused {found.code} {refusals.name_of(found.code)} {found.a} {found.b}"]

@@ -1,6 +1,6 @@
 """A driver for cjc, several SQL databases as one, by PEP 249. docs/CLIENTS.md shows it by example.
 
-It connects to `cjc serve CONF HOST:PORT`. `python3 -m cjc` is a shell over it, and `python3 -m cjc.passwd` makes a row
+It connects to `cjc serve CONF ADDR`. `python3 -m cjc` is a shell over it, and `python3 -m cjc.passwd` makes a row
 of the server's `users`. `cjc.local` starts a server for tests.
 """
 from .connection import Connection, connect

@@ -41,7 +41,7 @@ class _Run(argparse.Action):
 
 
 def _parser() -> argparse.ArgumentParser:
-    words = _Parser(prog="python3 -m cjc", description="A shell for cjc, which connects to `cjc serve CONF HOST:PORT`.",
+    words = _Parser(prog="python3 -m cjc", description="A shell for cjc, which connects to a server, `cjc serve CONF ADDR`.",
                     epilog=_EPILOG, formatter_class=argparse.RawDescriptionHelpFormatter)
     words.add_argument("server", metavar="HOST:PORT", help="the server, or cjc://user@host:port")
     words.add_argument("-U", "--user", help="the user; else that of the URL, or CJC_USER")
@@ -85,7 +85,7 @@ def _run(shell: Shell, runs: Sequence[tuple[str, str]]) -> int:
 
 def _session(given: argparse.Namespace) -> int:
     """Connects, runs what is given or typed, and closes. Returns the exit status."""
-    address, timeout = _address(given), given.timeout if given.timeout > 0 else None
+    address, timeout = _address(given), None if given.timeout == 0 else given.timeout
     interactive = not given.runs and sys.stdin.isatty() and sys.stdout.isatty()
     options = Options(interactive, given.keep_going, given.csv, False, given.quiet)
     shell = Shell(lambda: Connection(address, timeout, autocommit=True), options, sys.stdout, sys.stderr)

@@ -29,8 +29,8 @@ class Address:
 
     def login(self) -> tuple[bytes, bytes]:
         """User and password as bytes. Fails with InterfaceError if one is missing or longer than a frame allows."""
-        if self.user is None or self.password is None:
-            raise InterfaceError("a connection needs a user and a password")
+        if not isinstance(self.user, str) or not isinstance(self.password, str):
+            raise InterfaceError("a connection needs a user and a password, which are texts")
         user, password = encoded(self.user), encoded(self.password)
         if len(user) > STR16_MOST or len(password) > STR16_MOST:
             raise InterfaceError(f"a user or a password has more than {STR16_MOST:,} bytes")

@@ -12,8 +12,8 @@ from .errors import Error, InterfaceError, OperationalError, ProgrammingError
 from .link import GarbageError, Link, LinkError
 from .statements import CHANGES, ENDS, SCHEMA
 
-# Seconds for connecting, and for each request with its reply.
-TIMEOUT = 30.0
+# Seconds for connecting, and for each request with its reply. (Systems count milliseconds in 32 bits.)
+TIMEOUT, _TIMEOUT_MOST = 30.0, 1_000_000.0
 
 
 @dataclass(frozen=True)
@@ -46,6 +46,8 @@ def connect(
     Fails with InterfaceError where an argument is wrong, and with OperationalError where the server can't be
     reached or refuses the login.
     """
+    if not isinstance(host, str):
+        raise InterfaceError("a host is a text")
     if host.startswith(SCHEME):
         if port is not None:
             raise InterfaceError("a URL has the port already")
@@ -54,8 +56,6 @@ def connect(
         raise InterfaceError("a connection needs a port")
     else:
         address = checked(Address(host, port))
-    if timeout is not None and not timeout > 0:
-        raise InterfaceError("a timeout is a number of seconds above 0, or None")
     return Connection(with_login(address, user, password), timeout, autocommit)
 
 
@@ -85,12 +85,15 @@ class Connection:
         self._closed = False
         self._broken = ""
         user, password = address.login()
+        if timeout is not None and not (isinstance(timeout, (int, float)) and 0 < timeout <= _TIMEOUT_MOST):
+            raise InterfaceError("a timeout is a number of seconds above 0, at most 1,000,000, or None")
         try:
             self._link = Link(address.host, address.port, timeout)
-        except OSError as error:
+        except (OSError, UnicodeError) as error:
+            # (a UnicodeError is that of a host that can't be a name)
             raise OperationalError(
-                f"can't connect to {address}: {error.strerror or error}",
-                advice="Check host and port, and that `cjc serve` runs there.") from error
+                f"can't connect to {address}: {getattr(error, 'strerror', None) or error}",
+                advice="Check host and port, and that `cjc serve CONF ADDR` runs there.") from error
         reply = self._exchange(wire.login(user, password), "LOGIN")
         if not isinstance(reply, wire.Done):
             self._link.close()
@@ -170,10 +173,20 @@ class Connection:
 
     def request(self, verb: str, statement: bytes) -> Union[wire.Done, wire.Rows]:
         """Executes a statement whose first word is `verb`, after a BEGIN if it needs one. Cursors use it."""
-        self._check()
+        if self._closed or self._broken:
+            self._check()
         if verb in CHANGES and not self._autocommit and not self._in_transaction:
-            self._ask("BEGIN", b"BEGIN")
-        return self._ask(verb, statement)
+            self.request("BEGIN", b"BEGIN")
+        reply = self._exchange(wire.query(statement), verb)
+        if isinstance(reply, wire.Refused):
+            if verb in ENDS and reply.code in refusals.UNSETTLED:
+                self._in_transaction = False
+            self._refuse(reply, statement)
+        if not isinstance(reply, wire.Rows if verb == "SELECT" else wire.Done):
+            self._mismatch(reply, verb)
+        if verb == "BEGIN" or verb in ENDS:
+            self._in_transaction = verb == "BEGIN"
+        return reply
 
     def __enter__(self) -> Connection:
         self._check()
@@ -196,19 +209,6 @@ class Connection:
         if self._broken:
             raise OperationalError(f"the connection broke before ({self._broken})", advice="Open a new connection.")
 
-    def _ask(self, verb: str, statement: bytes) -> Union[wire.Done, wire.Rows]:
-        """The reply to one statement. It keeps account of the transaction."""
-        reply = self._exchange(wire.query(statement), verb)
-        if isinstance(reply, wire.Refused):
-            if verb in ENDS and reply.code in refusals.UNSETTLED:
-                self._in_transaction = False
-            self._refuse(reply, statement)
-        if not isinstance(reply, wire.Rows if verb == "SELECT" else wire.Done):
-            self._mismatch(reply, verb)
-        if verb == "BEGIN" or verb in ENDS:
-            self._in_transaction = verb == "BEGIN"
-        return reply
-
     def _exchange(self, request: bytes, verb: str) -> wire.Reply:
         """The reply to a request, which is sent once. Where that fails the connection is broken."""
         try:
@@ -230,7 +230,7 @@ class Connection:
         kind = InterfaceError if isinstance(error, GarbageError) else OperationalError
         advice = "Open a new connection."
         if verb == "LOGIN":
-            return kind(str(error), advice="Check that a `cjc serve` listens there, and how many sessions are open.")
+            return kind(str(error), advice="Check that `cjc serve CONF ADDR` listens there, and how many sessions are open.")
         outcome = outcome_of(verb, error.sent, inside)
         if outcome.is_unknown:
             advice += " Look whether the change was made before you repeat it."
@@ -253,4 +253,4 @@ class Connection:
         outcome = outcome_of(verb, True, self._in_transaction)
         self._break("the server sent a reply to another request")
         raise InterfaceError(f"the server sent {type(reply).__name__}, which is no reply to {verb}; {outcome.said}",
-                             advice="Open a new connection, to a `cjc serve`.", outcome_unknown=outcome.is_unknown)
+                             advice="Open a new connection, to a `cjc serve CONF ADDR`.", outcome_unknown=outcome.is_unknown)

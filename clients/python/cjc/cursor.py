@@ -7,7 +7,7 @@ from typing import TYPE_CHECKING, Optional
 
 from .errors import InterfaceError, NotSupportedError, ProgrammingError
 from .kinds import NUMBER, STRING, TypeObject
-from .statements import many, parameters_of, statement_bytes, template_of, verb_of
+from .statements import CHANGES, many, statement_bytes, template_of, verb_of
 from .wire import Rows, Value
 
 if TYPE_CHECKING:
@@ -15,8 +15,6 @@ if TYPE_CHECKING:
 
 Row = tuple[Value, ...]
 Column = tuple[str, Optional[TypeObject], None, None, None, None, bool]
-
-_COUNTED = ("INSERT", "UPDATE", "DELETE")
 
 
 class Cursor:
@@ -27,10 +25,9 @@ class Cursor:
         self.arraysize = 1
         # The rows of the last SELECT, or how many rows were changed; -1 where neither is known.
         self.rowcount = -1
-        # What PEP 249 says of the columns of the last SELECT. Kinds are those of the first row, None without rows.
-        self.description: Optional[tuple[Column, ...]] = None
         # cjc has no hidden row numbers.
         self.lastrowid: None = None
+        self._names: tuple[str, ...] = ()
         self._rows: Optional[list[Row]] = None
         self._next = 0
         self._closed = False
@@ -45,9 +42,12 @@ class Cursor:
         has no literal.
         """
         self._reset()
-        text = template_of(operation).bind(parameters_of(parameters))
-        verb = verb_of(operation)
-        self._take(verb, self.connection.request(verb, statement_bytes(text)))
+        template = template_of(operation)
+        reply = self.connection.request(template.verb, statement_bytes(template.bind(parameters)))
+        if isinstance(reply, Rows):
+            self._names, self._rows, self.rowcount = reply.names, reply.rows, len(reply.rows)
+        elif template.verb in CHANGES:
+            self.rowcount = reply.count
         return self
 
     def executemany(self, operation: str, seq_of_parameters: Iterable[Sequence[object]]) -> Cursor:
@@ -64,8 +64,8 @@ class Cursor:
         statements, total = many(operation, seq_of_parameters), 0
         for statement in statements:
             total += self.connection.request(verb, statement).count  # type: ignore[union-attr]
-            self.rowcount = total if verb in _COUNTED else -1
-        if not statements and verb in _COUNTED:
+            self.rowcount = total if verb in CHANGES else -1
+        if not statements and verb in CHANGES:
             self.rowcount = 0
         return self
 
@@ -83,11 +83,13 @@ class Cursor:
 
     def fetchone(self) -> Optional[Row]:
         """The next row, or None after the last. Fails with ProgrammingError where no SELECT was executed."""
-        rows = self._result()
-        if self._next >= len(rows):
+        rows, number = self._rows, self._next
+        if rows is None:
+            rows = self._result()
+        if number >= len(rows):
             return None
-        self._next += 1
-        return rows[self._next - 1]
+        self._next = number + 1
+        return rows[number]
 
     def fetchmany(self, size: Optional[int] = None) -> list[Row]:
         """The next `size` rows, by default `arraysize`, or as many as are left."""
@@ -114,6 +116,15 @@ class Cursor:
         self._next = place
 
     @property
+    def description(self) -> Optional[tuple[Column, ...]]:
+        """What PEP 249 says of the columns of the last SELECT. Kinds are those of the first row, None without rows."""
+        if self._rows is None:
+            return None
+        first: Row = self._rows[0] if self._rows else ()
+        kinds = [NUMBER if isinstance(value, int) else STRING for value in first] or [None] * len(self._names)
+        return tuple((name, kind, None, None, None, None, False) for name, kind in zip(self._names, kinds))
+
+    @property
     def rownumber(self) -> Optional[int]:
         """The index of the row that is fetched next, from 0; None without rows."""
         return None if self._rows is None else self._next
@@ -135,8 +146,7 @@ class Cursor:
 
     def close(self) -> None:
         """Lets the rows go. Each later call fails with InterfaceError."""
-        self._forget()
-        self._closed = True
+        self.rowcount, self._rows, self._closed = -1, None, True
 
     def __enter__(self) -> Cursor:
         return self
@@ -151,27 +161,13 @@ class Cursor:
         if self._closed:
             raise InterfaceError("the cursor is closed")
 
-    def _forget(self) -> None:
-        self.description, self.rowcount, self._rows, self._next = None, -1, None, 0
-
     def _reset(self) -> None:
-        """Forgets the last result before a new statement."""
+        """Forgets the last result, before a new statement."""
         self._check()
-        self._forget()
+        self.rowcount, self._rows, self._next = -1, None, 0
 
     def _result(self) -> list[Row]:
-        self._check()
         if self._rows is None:
+            self._check()
             raise ProgrammingError("there are no rows: the last statement was no SELECT, or there was none")
         return self._rows
-
-    def _take(self, verb: str, reply: object) -> None:
-        """Keeps the reply to a statement."""
-        if isinstance(reply, Rows):
-            first: Row = reply.rows[0] if reply.rows else ()
-            kinds = [NUMBER if isinstance(value, int) else STRING for value in first] or [None] * len(reply.names)
-            self.description = tuple((name, kind, None, None, None, None, False)
-                                     for name, kind in zip(reply.names, kinds))
-            self._rows, self.rowcount = reply.rows, len(reply.rows)
-        elif verb in _COUNTED:
-            self.rowcount = getattr(reply, "count")

@@ -11,7 +11,7 @@ _NO_NULL = "There is no NULL, since each column has a value: use one of your own
 _JOIN = "Write the tables with commas, and the condition of ON in WHERE: FROM a, b WHERE a.k = b.k."
 _NO_OUTER = "There are no outer joins. " + _JOIN
 _ALIAS = "There are no aliases: use the name itself, as in SELECT t.v FROM t."
-_KIND = "Columns are INTEGER or TEXT: use INTEGER for {}."
+_KIND = "Columns are INTEGER or TEXT: use INTEGER{}."
 _TEXT_KIND = "Columns are INTEGER or TEXT: use TEXT, with no length; a text has at most 4,096 bytes."
 _IF = "Leave IF [NOT] EXISTS out; the refusal says whether the table exists (21, 22)."
 _LEAVE = "Leave it out: a CREATE has names, kinds and one PRIMARY KEY alone."
@@ -41,13 +41,13 @@ WORDS = {
     "WITH": _NO_SUB, "RETURNING": "There is no RETURNING: SELECT the rows by their keys afterwards.",
     "IF": _IF, "UNIQUE": _LEAVE, "DEFAULT": _LEAVE, "CHECK": _LEAVE, "REFERENCES": _LEAVE, "FOREIGN": _LEAVE,
     "CONSTRAINT": _LEAVE, "COLLATE": _LEAVE, "AUTOINCREMENT": _LEAVE, "AUTO_INCREMENT": _LEAVE, "WITHOUT": _LEAVE,
-    "INT": _KIND.format("it"), "BIGINT": _KIND.format("it"), "SMALLINT": _KIND.format("it"),
-    "SERIAL": _KIND.format("it, and choose the keys yourself"), "BOOLEAN": _KIND.format("it, as 0 and 1"),
-    "BOOL": _KIND.format("it, as 0 and 1"), "REAL": _KIND.format("it, as thousandths"),
-    "FLOAT": _KIND.format("it, as thousandths"), "DOUBLE": _KIND.format("it, as thousandths"),
-    "DECIMAL": _KIND.format("it, as cents"), "NUMERIC": _KIND.format("it, as cents"),
-    "TIMESTAMP": _KIND.format("it, as seconds since 1970, which NOW() gives"),
-    "DATETIME": _KIND.format("it, as seconds since 1970, which NOW() gives"),
+    "INT": _KIND.format(""), "BIGINT": _KIND.format(""), "SMALLINT": _KIND.format(""),
+    "SERIAL": _KIND.format(", and choose the keys yourself"), "BOOLEAN": _KIND.format(", with 0 and 1"),
+    "BOOL": _KIND.format(", with 0 and 1"), "REAL": _KIND.format(", as thousandths"),
+    "FLOAT": _KIND.format(", as thousandths"), "DOUBLE": _KIND.format(", as thousandths"),
+    "DECIMAL": _KIND.format(", as cents"), "NUMERIC": _KIND.format(", as cents"),
+    "TIMESTAMP": _KIND.format(", as seconds since 1970, which NOW() gives"),
+    "DATETIME": _KIND.format(", as seconds since 1970, which NOW() gives"),
     "DATE": "Columns are INTEGER or TEXT: use TEXT, as '2026-11-30'.",
     "VARCHAR": _TEXT_KIND, "CHAR": _TEXT_KIND, "STRING": _TEXT_KIND, "BLOB": _TEXT_KIND,
     "TRUE": "Write 1.", "FALSE": "Write 0.",

@@ -26,7 +26,7 @@ def literal(value: object) -> str:
     Fails with DataError where the value is out of range, and with NotSupportedError where it is of another type.
     """
     if isinstance(value, str):
-        return _quoted(value)
+        return quoted(_checked(value))
     if isinstance(value, int):
         if not LOWEST <= value <= HIGHEST:
             raise DataError(f"a parameter of {value.bit_length()} bits lies outside the 64 bits of INTEGER")
@@ -36,14 +36,18 @@ def literal(value: object) -> str:
         f"a parameter of type {name} has no literal: {_INSTEAD.get(name, 'a parameter is an int or a str')}")
 
 
-def _quoted(text: str) -> str:
+def quoted(text: str) -> str:
     """The text in quotes, with each quote in it doubled."""
+    return "'" + text.replace("'", "''") + "'"
+
+
+def _checked(text: str) -> str:
+    """The text, which TEXT can hold. Fails with DataError."""
     if "\0" in text:
         raise DataError("a text parameter contains byte 0, which TEXT can't")
     if 4 * len(text) > TEXT_MOST and len(encoded(text)) > TEXT_MOST:
         raise DataError(f"a text parameter has {len(encoded(text)):,} bytes, and TEXT has at most {TEXT_MOST:,}")
-    # (a doubled quote stands for one)
-    return "'" + text.replace("'", "''") + "'"
+    return text
 
 
 def encoded(text: str) -> bytes:

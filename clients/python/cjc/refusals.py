@@ -93,6 +93,11 @@ _FRAME_FAULTS = {1: "its length is 0", 2: "its length is over 1,048,576", 3: "it
                  4: "its payload is malformed"}
 
 
+def name_of(code: int) -> str:
+    """The name of a refusal, or '' where docs/FORMATS.md doesn't list it."""
+    return MEANINGS[code].name if code in MEANINGS else ""
+
+
 def _backends(mask: int) -> str:
     """The backends of a mask, as `backends 0 and 2`."""
     numbers = [str(b) for b in range(64) if mask >> b & 1]

@@ -20,19 +20,22 @@ from .wire import Done, Rows
 OK, USAGE, NO_CONNECTION, REFUSED, INTERRUPTED = 0, 1, 2, 3, 130
 # How deep \i may nest.
 _DEPTH_MOST = 16
+# What people type who know other shells.
+_WORDS = {"help": "\\?", "?": "\\?", "quit": "\\q", "exit": "\\q"}
 
 HELP = """\
-A statement ends with a semicolon and may take several lines.
-  \\timing      says how long each statement takes, or stops that
-  \\csv         writes rows as CSV, or as tables again
-  \\o [FILE]    writes what follows to FILE, or to the screen again
-  \\i FILE      runs the lines of FILE
-  \\stats       shows how many SELECTs the server's cache answered
-  \\?           shows this
-  \\q           ends the shell, as Ctrl-D does
-Ctrl-C drops the statement that is being typed. While a statement runs it closes the connection: the server goes on.
-Statements: SELECT INSERT UPDATE DELETE, CREATE TABLE, DROP TABLE, BEGIN COMMIT ROLLBACK (docs/SQL.md).
-A star in the prompt shows an open transaction.
+A statement ends with a semicolon and may take several lines. These have a line of their own:
+  \\timing [on|off]  says how long each statement takes, or stops that
+  \\csv [on|off]     writes rows as CSV, or as tables again
+  \\o [FILE]         writes what follows to FILE, or to the screen again
+  \\i FILE           runs the lines of FILE
+  \\stats            shows how many SELECTs the server's cache answered
+  \\?                shows this, as `help` does
+  \\q                ends the shell, as `quit`, `exit` and Ctrl-D do
+Ctrl-C drops the statement that is being typed. While a statement runs it closes
+the connection, and the server goes on. A star in the prompt shows an open transaction.
+Statements are SELECT, INSERT, UPDATE, DELETE, CREATE TABLE, DROP TABLE, BEGIN, COMMIT
+and ROLLBACK (docs/SQL.md).
 """
 
 
@@ -87,22 +90,42 @@ class Shell:
         """Runs what this line finishes. Fails with Quit where the shell is to end."""
         self._line += 1
         line = line.rstrip("\r\n")
-        if self._splitter.is_empty and line.lstrip().startswith("\\"):
-            self._command(line.strip())
+        command = self._command_of(line.strip())
+        if command:
+            self._command(command)
             return
         for statement, number in self._splitter.add(line, self._line):
             self._statement(statement, number)
+
+    def _command_of(self, line: str) -> str:
+        """The backslash command of a line, or ''.
+
+        What is typed may be one inside a statement, and a word of other shells.
+        """
+        is_typed = self.options.interactive and not self._sources
+        if line.startswith("\\"):
+            return line if self._splitter.is_empty or is_typed and not self._splitter.in_string else ""
+        command = _WORDS.get(line.rstrip("; ").lower(), "") if is_typed else ""
+        if command and not self._splitter.is_empty:
+            # It may be a name, so it stays a part of the statement.
+            print("A statement is open: a semicolon ends it, Ctrl-C drops it, \\q ends the shell.", file=self._err)
+            return ""
+        return command
 
     def end(self) -> None:
         """Runs the statement at the end that has no semicolon."""
         for statement, number in self._splitter.rest():
             self._statement(statement, number)
 
-    def clear(self) -> bool:
-        """Drops the statement that is being typed, and says whether there was one."""
-        was_empty = self._splitter.is_empty
+    def clear(self) -> None:
+        """Drops the statement that is being typed."""
         self._splitter.clear()
-        return not was_empty
+
+    def drop(self) -> None:
+        """Drops the statement that is being typed, and says so if there is one."""
+        if not self._splitter.is_empty:
+            print("the statement without a semicolon wasn't sent", file=self._err)
+        self.clear()
 
     def run(self, lines: Iterable[str], name: str) -> None:
         """Runs lines, which errors call `name`, and a last statement without its semicolon."""
@@ -153,7 +176,7 @@ class Shell:
             self._refused(error, text, line)
         except KeyboardInterrupt:
             said = f"interrupted, and the connection closed; {outcome_of(verb, True, inside).said}"
-            self._failed(said, "", line, INTERRUPTED)
+            self._failed(said if self.connection.closed else "interrupted; the rest isn't shown", "", line, INTERRUPTED)
         if self.options.timing:
             self._write(f"Time: {(time.monotonic() - start) * 1000:.3f} ms\n")
         self._reopen()
@@ -215,16 +238,17 @@ class Shell:
                     "\\q": self._quit, "\\i": self._include, "\\o": self._output}
         command = commands.get(name)
         if command is None:
-            self._failed(f"{name} is no command", "\\? lists the commands.", self._line, REFUSED)
+            no_list = "The server gives no list of tables or columns; SELECT * shows columns. " if name[:2] in ("\\d", "\\l") else ""
+            self._failed(f"{name} is no command", no_list + "\\? lists the commands.", self._line, REFUSED)
         else:
             command(os.path.expanduser(rest))
 
-    def _timing(self, _: str) -> None:
-        self.options.timing = not self.options.timing
+    def _timing(self, word: str) -> None:
+        self.options.timing = _switched(self.options.timing, word)
         self._note(f"Timing is {'on' if self.options.timing else 'off'}.")
 
-    def _csv(self, _: str) -> None:
-        self.options.csv = not self.options.csv
+    def _csv(self, word: str) -> None:
+        self.options.csv = _switched(self.options.csv, word)
         self._note(f"Rows are written as {'CSV' if self.options.csv else 'tables'}.")
 
     def _stats(self, _: str) -> None:
@@ -241,6 +265,7 @@ class Shell:
         self._write(HELP)
 
     def _quit(self, _: str) -> None:
+        self.drop()
         raise Quit(self.status)
 
     def _include(self, path: str) -> None:
@@ -284,6 +309,11 @@ class Shell:
                 lost.close()
             self._failed(f"can't write {lost.name}: {error.strerror}", "What follows goes to the screen.", self._line,
                          USAGE)
+
+
+def _switched(value: bool, word: str) -> bool:
+    """A switch after `on`, `off`, or no word, which turns it round."""
+    return {"on": True, "off": False}.get(word.lower(), not value)
 
 
 def excerpt(text: str, fault: Fault) -> str:

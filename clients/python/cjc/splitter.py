@@ -23,6 +23,11 @@ class Splitter:
         return not self._parts
 
     @property
+    def in_string(self) -> bool:
+        """Whether a string was begun and not ended."""
+        return self._in_string
+
+    @property
     def open_mark(self) -> str:
         """What the statement waits for: ' in a string, ( in parentheses, - for its end, or = before it begins."""
         if self.is_empty:

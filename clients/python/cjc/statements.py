@@ -3,7 +3,7 @@ from __future__ import annotations
 
 import re
 from collections.abc import Iterable, Sequence
-from dataclasses import dataclass
+from functools import lru_cache
 
 from .errors import DataError, ProgrammingError
 from .literals import HIGHEST, LOWEST, encoded, literal
@@ -11,6 +11,8 @@ from .wire import STATEMENT_MOST
 
 # The most tuples of an INSERT.
 TUPLES_MOST = 4_096
+# The longest text whose template is kept, in characters.
+_KEPT_MOST = 1_024
 
 CHANGES = frozenset(("INSERT", "UPDATE", "DELETE"))
 SCHEMA = frozenset(("CREATE", "DROP"))
@@ -33,37 +35,39 @@ def verb_of(text: str) -> str:
     return found.group(1).upper() if found else ""
 
 
-@dataclass(frozen=True)
 class Template:
-    """A text cut at its question marks, those in strings aside. A literal goes between each two pieces."""
+    """A text cut at its question marks, those in strings aside. A literal goes in place of each."""
 
-    pieces: tuple[str, ...]
+    def __init__(self, text: str) -> None:
+        self.verb = verb_of(text)
+        pieces = _pieces(text)
+        # How many parameters it wants.
+        self.count = len(pieces) - 1
+        # (a text without parameters is sent as it is)
+        self._form = "%s".join(piece.replace("%", "%%") for piece in pieces) if self.count else text
 
-    @property
-    def count(self) -> int:
-        """How many parameters it wants."""
-        return len(self.pieces) - 1
-
-    def bind(self, parameters: Sequence[object]) -> str:
+    def bind(self, given: object) -> str:
         """The text with these parameters. Fails with ProgrammingError, DataError or NotSupportedError."""
-        return self.bind_all((parameters,))[0]
-
-    def bind_all(self, sets: Iterable[object]) -> list[str]:
-        """The text with each of these sets of parameters. Fails as `bind` does."""
-        form = "%s".join(piece.replace("%", "%%") for piece in self.pieces)
-        count, texts = self.count, []
-        for given in sets:
-            parameters = parameters_of(given)
-            if len(parameters) != count:
-                raise ProgrammingError(f"{count} question marks, but {len(parameters)} parameters")
-            # (most values are ints of 64 bits, which are written as they are, without a call for each)
-            texts.append(form % tuple([
-                value if type(value) is int and LOWEST <= value <= HIGHEST else literal(value) for value in parameters]))
-        return texts
+        parameters = parameters_of(given)
+        if len(parameters) != self.count:
+            raise ProgrammingError(f"{self.count} question marks, but {len(parameters)} parameters")
+        if not parameters:
+            return self._form
+        # (most values are ints of 64 bits, which are written as they are, without a call for each)
+        return self._form % tuple([
+            value if type(value) is int and LOWEST <= value <= HIGHEST else literal(value) for value in parameters])
 
 
 def template_of(text: str) -> Template:
-    """The template of a text."""
+    """The template of a text. Those of the last texts are kept, for programs execute the same ones again and again."""
+    return _kept_template(text) if len(text) <= _KEPT_MOST else Template(text)
+
+
+_kept_template = lru_cache(maxsize=128)(Template)
+
+
+def _pieces(text: str) -> list[str]:
+    """The pieces of a text between its question marks."""
     pieces, start = [], 0
     for mark in _MARKS.finditer(text):
         if mark.group() == "?":
@@ -71,7 +75,7 @@ def template_of(text: str) -> Template:
             start = mark.end()
     pieces.append(text[start:])
     last = len(pieces) - 1
-    return Template(tuple(_apart(piece, n > 0, n < last) for n, piece in enumerate(pieces)))
+    return [_apart(piece, n > 0, n < last) for n, piece in enumerate(pieces)]
 
 
 def _apart(piece: str, after: bool, before: bool) -> str:
@@ -114,11 +118,11 @@ def many(text: str, sets: Iterable[object]) -> list[bytes]:
     """
     insert = _INSERT.match(text)
     if insert is None:
-        template = template_of(text)
-        return [statement_bytes(statement) for statement in template.bind_all(sets)]
+        bind = template_of(text).bind
+        return [statement_bytes(bind(given)) for given in sets]
     tail = _TAIL_END.sub("", text[insert.end():])
-    template = template_of(tail)
-    tuples = [encoded(bound) for bound in template.bind_all(sets)]
+    bind = template_of(tail).bind
+    tuples = [encoded(bind(given)) for given in sets]
     return _joined(encoded(insert.group()) + b" ", tuples, max(1, TUPLES_MOST // max(1, _tuples_in(tail))))
 
 

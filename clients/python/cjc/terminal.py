@@ -57,8 +57,7 @@ def interact(shell: Shell) -> int:
         return OK
     except EOFError:
         print()
-        if shell.clear():
-            print("the statement without a semicolon wasn't sent", file=sys.stderr)
+        shell.drop()
         return OK
     finally:
         _save_history(path)

@@ -3,7 +3,8 @@ from __future__ import annotations
 
 import struct
 from dataclasses import dataclass
-from typing import Union
+from functools import lru_cache
+from typing import Optional, Union
 
 # The largest length of a frame, which counts its kind and its payload.
 MOST = 1_048_576
@@ -12,6 +13,7 @@ STATEMENT_MOST = MOST - 1
 STR16_MOST = 65_535
 
 LENGTH = struct.Struct(">I")
+_HEAD = struct.Struct(">IB")
 _SHORT = struct.Struct(">H")
 _COUNT = struct.Struct(">Q")
 _NUMBER = struct.Struct(">q")
@@ -29,14 +31,15 @@ class Malformed(ValueError):
     """Bytes that are no reply."""
 
 
-@dataclass(frozen=True)
+# (not frozen, since one of these is made for each statement, and frozen ones take three times as long)
+@dataclass
 class Done:
     """A statement was executed; `count` rows were changed."""
 
     count: int
 
 
-@dataclass(frozen=True)
+@dataclass
 class Rows:
     """The answer of a SELECT."""
 
@@ -66,12 +69,17 @@ Reply = Union[Done, Rows, Stats, Refused]
 
 def frame(kind: int, payload: bytes = b"") -> bytes:
     """A frame of this kind. Its length is checked by the callers below."""
-    return b"".join((LENGTH.pack(1 + len(payload)), bytes((kind,)), payload))
+    return _HEAD.pack(1 + len(payload), kind) + payload
+
+
+def text16(text: bytes) -> bytes:
+    """A text of at most STR16_MOST bytes behind its length."""
+    return _SHORT.pack(len(text)) + text
 
 
 def login(user: bytes, password: bytes) -> bytes:
     """The Login of this user. Both are at most STR16_MOST bytes."""
-    return frame(LOGIN, b"".join((_SHORT.pack(len(user)), user, _SHORT.pack(len(password)), password)))
+    return frame(LOGIN, text16(user) + text16(password))
 
 
 def query(statement: bytes) -> bytes:
@@ -81,87 +89,87 @@ def query(statement: bytes) -> bytes:
 
 def body_length(head: Union[bytes, memoryview]) -> int:
     """The length that the first four bytes of a frame give. Fails with Malformed if no frame has it."""
+    if len(head) < LENGTH.size:
+        raise Malformed(f"a frame of {len(head)} bytes")
     (length,) = LENGTH.unpack_from(head)
     if not 1 <= length <= MOST:
         raise Malformed(f"a frame of {length} bytes")
     return int(length)
 
 
-def reply(body: memoryview) -> Reply:
-    """The reply of a frame's kind and payload, without the length before them. Fails with Malformed."""
+def reply(data: Union[bytes, memoryview], start: int = 0) -> Reply:
+    """The reply whose kind is at this offset, and whose payload goes up to the end. Fails with Malformed."""
     try:
-        kind, payload = body[0], body[1:]
-        if kind == DONE:
-            return Done(*_whole(_COUNT, payload))
+        kind = data[start]
         if kind == ROWS:
-            return _rows(payload)
+            return _rows(data, start + 1)
+        if kind == DONE:
+            return Done(*_whole(_COUNT, data, start + 1))
         if kind == STATS_REPLY:
-            return Stats(*_whole(_PAIR, payload))
+            return Stats(*_whole(_PAIR, data, start + 1))
         if kind == REFUSED:
-            return Refused(*_whole(_REFUSAL, payload))
+            return Refused(*_whole(_REFUSAL, data, start + 1))
     except (struct.error, IndexError, UnicodeDecodeError) as error:
         raise Malformed(f"a reply that ends early or holds no text: {error}") from None
     raise Malformed(f"a reply of kind {kind:#04x}")
 
 
-def _whole(form: struct.Struct, payload: memoryview) -> tuple[int, ...]:
+def _whole(form: struct.Struct, data: Union[bytes, memoryview], at: int) -> tuple[int, ...]:
     """The numbers of a payload that holds nothing else."""
-    if len(payload) != form.size:
-        raise Malformed(f"a payload of {len(payload)} bytes in place of {form.size}")
-    return form.unpack(payload)
+    if len(data) != at + form.size:
+        raise Malformed(f"a payload of {len(data) - at} bytes in place of {form.size}")
+    return form.unpack_from(data, at)
 
 
-def _rows(payload: memoryview) -> Rows:
-    """The rows of a payload. The buffer is read where it is; only texts are copied, into their strings."""
-    (columns,) = _SHORT.unpack_from(payload)
+def _rows(data: Union[bytes, memoryview], at: int) -> Rows:
+    """The rows of a payload. A buffer is read where it is; only texts are copied, into their strings.
+
+    A text that would go past the end is cut there, and what is read after it fails.
+    """
+    (columns,) = _SHORT.unpack_from(data, at)
     if columns == 0:
         raise Malformed("an answer without columns")
-    at, names = _SHORT.size, []
+    at += _SHORT.size
+    names = []
     for _ in range(columns):
-        name, at = _text(payload, at, _SHORT)
-        names.append(name)
-    (count,) = LENGTH.unpack_from(payload, at)
-    values = payload[at + LENGTH.size:]
+        start = at + _SHORT.size
+        at = start + _SHORT.unpack_from(data, at)[0]
+        names.append(str(data[start:at], "utf-8"))
+    (count,) = LENGTH.unpack_from(data, at)
+    values = data[at + LENGTH.size:]
     rows = _numbers(values, columns, count)
     return Rows(tuple(names), _mixed(values, columns, count) if rows is None else rows)
 
 
-def _text(payload: memoryview, at: int, form: struct.Struct) -> tuple[str, int]:
-    """The text whose length is at this offset, and the offset after it."""
-    start = at + form.size
-    end = start + form.unpack_from(payload, at)[0]
-    if end > len(payload):
-        raise Malformed("a text that ends early")
-    return str(payload[start:end], "utf-8"), end
+@lru_cache(maxsize=16)
+def _row_of_numbers(columns: int) -> struct.Struct:
+    """The form of a row of so many numbers, without their kinds."""
+    return struct.Struct(">" + columns * "xq")
 
 
-def _numbers(values: memoryview, columns: int, count: int) -> Union[list[tuple[Value, ...]], None]:
+def _numbers(values: Union[bytes, memoryview], columns: int, count: int) -> Optional[list[tuple[Value, ...]]]:
     """The rows of numbers alone, which have one length; None if some value is a text."""
-    if len(values) != count * columns * (1 + _NUMBER.size):
+    size = 1 + _NUMBER.size
+    if len(values) != count * columns * size or bytes(values[::size]).count(_INTEGER) != count * columns:
         return None
-    row = struct.Struct(">" + columns * "Bq")
-    found: list[tuple[Value, ...]] = []
-    for fields in row.iter_unpack(values):
-        if fields[::2].count(_INTEGER) != columns:
-            return None
-        found.append(fields[1::2])
-    return found
+    return list(_row_of_numbers(columns).iter_unpack(values))
 
 
-def _mixed(payload: memoryview, columns: int, count: int) -> list[tuple[Value, ...]]:
+def _mixed(values: Union[bytes, memoryview], columns: int, count: int) -> list[tuple[Value, ...]]:
     """Rows of numbers and texts."""
-    values: list[Value] = []
-    at, number = 0, _NUMBER.unpack_from
+    found: list[Value] = []
+    at, number, length = 0, _NUMBER.unpack_from, LENGTH.unpack_from
     for _ in range(columns * count):
-        tag = payload[at]
-        if tag == _INTEGER:
-            values.append(number(payload, at + 1)[0])
+        kind = values[at]
+        if kind == _INTEGER:
+            found.append(number(values, at + 1)[0])
             at += 1 + _NUMBER.size
-        elif tag == _TEXT:
-            text, at = _text(payload, at + 1, LENGTH)
-            values.append(text)
+        elif kind == _TEXT:
+            start = at + 1 + LENGTH.size
+            at = start + length(values, at + 1)[0]
+            found.append(str(values[start:at], "utf-8"))
         else:
-            raise Malformed(f"a value of kind {tag:#04x}")
-    if at != len(payload):
-        raise Malformed(f"{len(payload) - at} bytes after the last row")
-    return list(zip(*[iter(values)] * columns))
+            raise Malformed(f"a value of kind {kind:#04x}")
+    if at != len(values):
+        raise Malformed("a value that ends early" if at > len(values) else f"{len(values) - at} bytes after the last row")
+    return list(zip(*[iter(found)] * columns))

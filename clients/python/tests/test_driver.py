@@ -27,11 +27,18 @@ class Driver(OverServer):
     def test_wrong_arguments(self) -> None:
         for arguments in (("localhost",), ("localhost", 0, "a", "b"), ("localhost", 70000, "a", "b"),
                           ("cjc://x", None, "a", "b"), ("cjc://a:b@x:1", 1), ("cjc://a:b@x:port",),
-                          ("localhost", self.port), ("localhost", self.port, "a" * 65536, "b")):
+                          ("localhost", self.port), ("localhost", self.port, "a" * 65536, "b"), (b"localhost", 1, "a", "b"),
+                          (None,), ("localhost", self.port, b"a", "b"), ("localhost", self.port, "a", 5)):
             with self.assertRaises(cjc.InterfaceError):
                 cjc.connect(*arguments)
-        with self.assertRaises(cjc.InterfaceError):
-            cjc.connect("localhost", self.port, "a", "b", timeout=0)
+        for timeout in (0, -1, float("nan"), float("inf"), 1_000_001, "5"):
+            with self.assertRaises(cjc.InterfaceError):
+                cjc.connect("localhost", self.port, "a", "b", timeout=timeout)
+        for timeout in (1_000_000, 60, None):
+            self.assertIsNone(self.connect(timeout=timeout).commit())
+        for host in ("a" * 70, "a..b", "xn--\u00e9"):
+            with self.assertRaisesRegex(cjc.OperationalError, "can't connect to"):
+                cjc.connect(host, self.port, "a", "b")
 
     def test_wrong_password(self) -> None:
         with self.assertRaises(cjc.OperationalError) as caught:

@@ -235,7 +235,7 @@ class Faults(OverToy):
 
     def test_interrupt(self) -> None:
         connection = self.connect(autocommit=True)
-        with mock.patch.object(connection._link, "_fill", side_effect=KeyboardInterrupt):
+        with mock.patch.object(connection._link, "_begin", side_effect=KeyboardInterrupt):
             with self.assertRaises(KeyboardInterrupt):
                 connection.cursor().execute("BEGIN")
         self.assert_broken(connection)

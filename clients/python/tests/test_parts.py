@@ -47,6 +47,7 @@ class Wire(unittest.TestCase):
                 # Texts of 4 bytes take as much room as numbers.
                 (toy.rows_frame(["v"], [("four",), (1,), ("🙂",)]), wire.Rows(("v",), [("four",), (1,), ("🙂",)]))):
             self.assertEqual(wire.body_length(data), len(data) - 4)
+            self.assertEqual(wire.reply(data, 4), wanted)
             self.assertEqual(wire.reply(memoryview(data)[4:]), wanted)
 
     def test_every_cut_is_malformed(self) -> None:

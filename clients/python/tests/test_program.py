@@ -4,6 +4,7 @@ from __future__ import annotations
 import os
 import resource
 import shutil
+import struct
 import subprocess
 import sys
 import threading
@@ -21,6 +22,8 @@ from .terminal import Shells, Terminal, environment
 
 # A request that a paused server doesn't answer is given up after so many seconds.
 SHORT = 1.0
+# The greatest number of a session.
+LAST_SESSION = 2 ** 62
 
 
 class OverKilled(OverProgram):
@@ -68,6 +71,23 @@ class OverKilled(OverProgram):
         self.server.start()
         self.assertEqual(len(failed), 1)
         return failed[0]
+
+
+@contextmanager
+def limited(process: int, what: int, most: int) -> Iterator[None]:
+    """A process has this much of a resource within the block."""
+    before = resource.prlimit(process, what)
+    resource.prlimit(process, what, (most, before[1]))
+    try:
+        yield
+    finally:
+        resource.prlimit(process, what, before)
+
+
+def _writable_memory(process: int) -> int:
+    """The bytes of memory that a process has for itself, as the system counts them for its limit."""
+    with open(f"/proc/{process}/status", encoding="ascii") as lines:
+        return next(1024 * int(line.split()[1]) for line in lines if line.startswith("VmData:"))
 
 
 def _unread(port: int) -> Iterator[int]:
@@ -252,7 +272,7 @@ class Refused(OverProgram):
         table = self.create("disk")
         one, two = self.connect(), self.connect(autocommit=True)
         one.cursor().execute(f"INSERT INTO {table} VALUES (1, 'a')")
-        with self.full_disk():
+        with limited(self.server.pid, resource.RLIMIT_FSIZE, os.path.getsize(self.server.configuration + ".log")):
             with self.assertRaises(cjc.OperationalError) as caught:
                 one.commit()
             self.assertEqual((caught.exception.code, caught.exception.outcome_unknown), (42, False))
@@ -264,16 +284,38 @@ class Refused(OverProgram):
         one.commit()
         self.assertEqual(two.cursor().execute(f"SELECT * FROM {table}").fetchall(), [(1, "a")])
 
-    @contextmanager
-    def full_disk(self) -> Iterator[None]:
-        """The recovery log can't grow within the block."""
-        size = os.path.getsize(self.server.configuration + ".log")
-        _, most = resource.prlimit(self.server.pid, resource.RLIMIT_FSIZE)
-        resource.prlimit(self.server.pid, resource.RLIMIT_FSIZE, (size, most))
-        try:
-            yield
-        finally:
-            resource.prlimit(self.server.pid, resource.RLIMIT_FSIZE, (most, most))
+    def test_without_session_numbers(self) -> None:
+        """Over a log in which the last session number was given, nobody gets in."""
+        text = b"CREATE TABLE t (k INTEGER PRIMARY KEY)"
+        entry = struct.pack(">B4Q", 1, 1, LAST_SESSION, 1, 0) + wire.text16(b"ann") + struct.pack(">Q", len(text)) + text
+        conf = shutil.copy(CONFIGURATION, os.path.join(self.folder.name, "last.toml"))
+        with open(conf + ".log", "wb") as log:
+            log.write(b"CJL1\1" + struct.pack(">Q", len(entry)) + entry + b"\0")
+        with Server(self.server.program, conf) as server, self.assertRaises(cjc.OperationalError) as caught:
+            cjc.connect(HOST, server.port, self.user, self.password, timeout=PATIENCE)
+        self.assertEqual((caught.exception.code, caught.exception.a), (46, LAST_SESSION))
+
+
+class Starved(OverKilled):
+    """A server that gets no more memory."""
+
+    def test_without_memory(self) -> None:
+        """A read and a change that need a lot are refused, and a start repairs what that leaves."""
+        small, large = self.create("small"), self.create("large")
+        cursor = self.connect(autocommit=True).cursor()
+        cursor.executemany(f"INSERT INTO {small} VALUES (?, '')", [(k,) for k in range(4096)])
+        cursor.executemany(f"INSERT INTO {large} VALUES (?, ?)", [(k, "x" * 4096) for k in range(64)])
+        with limited(self.server.pid, resource.RLIMIT_DATA, _writable_memory(self.server.pid)):
+            for statement, code in ((f"SELECT {large}.v FROM {small}, {large}", 43),
+                                    (f"UPDATE {small} SET v = '{'y' * 4096}'", 44), (f"SELECT k FROM {small}", 20)):
+                with self.assertRaises(cjc.OperationalError) as caught:
+                    cursor.execute(statement)
+                self.assertEqual((caught.exception.code, caught.exception.outcome_unknown), (code, code == 44))
+                self.assertEqual((caught.exception.a, caught.exception.b), (0, 3 if code == 44 else 0))
+        self.server.kill()
+        self.server.start()
+        cursor = self.connect().cursor().execute(f"SELECT COUNT(*) FROM {small} WHERE v <> ''")
+        self.assertEqual(cursor.fetchall(), [(4096,)])
 
 
 class OfOnesOwn(OverProgram):

@@ -13,6 +13,7 @@ import unittest
 from unittest import mock
 
 from cjc.__main__ import main
+from cjc.shell import Options, Shell
 
 from . import toy
 from .served import PATIENCE, OverServer, OverToy
@@ -134,12 +135,16 @@ lines'), (4, 'esc \x1b[31m'); SELECT k, v FROM {self.table} ORDER BY v; SELECT C
         given = f"\\timing\nSELECT k FROM {self.table};\n\\timing\n\\stats\n\\?\n\\q\nSELECT"
         status, out, err = self.shell(given=given)
         self.assertEqual((status, err), (0, ""))
+        given = f"\\csv on\n\\csv ON\nSELECT k FROM {self.table};\n\\csv off\n\\csv off\nSELECT k FROM {self.table};"
+        self.assertEqual(self.shell("-q", given=given), (0, "k\n k\n -\n(0 rows)\n", ""))
         self.assertRegex(out, r"Timing is on\.\n k\n -\n\(0 rows\)\nTime: [0-9.]+ ms\nTiming is off\.\n"
                               r"hits \d+, misses \d+\n")
         self.assertIn("\\i FILE", out)
         status, _, err = self.shell("-c", "\\d")
         self.assertEqual(status, 3)
-        self.assertIn("HINT  \\? lists the commands", err)
+        self.assertRegex(err, r"HINT  The server gives no list .*\? lists the commands")
+        # What stands inside a statement is a part of it.
+        self.assertEqual(self.shell(given="SELECT\n\\q\n")[0], 3)
         self.assertEqual(self.shell("-c", "\\i")[0], 1)
 
     def test_statuses(self) -> None:
@@ -227,6 +232,27 @@ class AtTerminal(Shells, OverServer):
         shell.send("\x04")
         self.assertEqual(shell.status(), 0)
 
+    def test_words_of_other_shells(self) -> None:
+        """Who knows other shells finds the help and the way out, inside a statement too."""
+        shell = self.terminal(CJC_PASSWORD=self.password, CJC_HISTORY="")
+        shell.wait_for("cjc=> $")
+        for word in ("help", "HELP;", "\\?"):
+            self.assertIn("\\i FILE", shell.type(word))
+        shell.type("SELECT", "cjc-> $")
+        self.assertIn("A statement is open", shell.type("exit", "cjc-> $"))
+        self.assertIn("\\i FILE", shell.type("\\?", "cjc-> $"))
+        self.assertIn("hits", shell.type("\\stats", "cjc-> $"))
+        shell.type("'a", "cjc'> $")
+        shell.type("\\q", "cjc'> $")
+        shell.type("'", "cjc-> $")
+        shell.send("\\q\r")
+        self.assertEqual(shell.status(), 0)
+        self.assertIn("wasn't sent", shell.shown)
+        shell = self.terminal(CJC_PASSWORD=self.password, CJC_HISTORY="")
+        shell.wait_for("cjc=> $")
+        shell.send("quit\r")
+        self.assertEqual(shell.status(), 0)
+
     def test_a_file_at_a_terminal(self) -> None:
         path = os.path.join(self.folder, "a.sql")
         with open(path, "w", encoding="utf-8") as file:
@@ -298,6 +324,23 @@ class OverMisbehaving(Shells, OverToy):
         self.assertIn("wasn't sent", shell.shown)
         self.assertIn("the open transaction is rolled back", shell.shown)
         self.assertEqual(os.listdir(self.folder), [])
+
+    def test_ctrl_c_in_an_answer(self) -> None:
+        """The statement was executed, and the connection stays."""
+        class Screen(io.StringIO):
+            """A screen at which Ctrl-C is typed as rows come."""
+
+            def write(self, text: str) -> int:
+                if "rows)" in text:
+                    raise KeyboardInterrupt
+                return super().write(text)
+
+        self.toy.tricks["SELECT k FROM t;"] = toy.answers(toy.rows_frame(["k"], []))
+        err = io.StringIO()
+        shell = Shell(lambda: self.connect(autocommit=True), Options(interactive=True), Screen(), err)
+        shell.feed("SELECT k FROM t;")
+        self.assertEqual(err.getvalue(), "ERROR interrupted; the rest isn't shown\n")
+        self.assertFalse(shell.connection.closed)
 
     def test_a_server_that_is_gone(self) -> None:
         """Each statement tries to connect, and says once that it can't."""
