@@ -1,9 +1,9 @@
 /* A load of one kind of request over TCP, and an echo with a thread a connection to compare a server with.
  *
  * usage: load echo PORT REPLY_BYTES                       answers each frame with a frame of so many bytes
- *        load ask PORT CLIENTS SECONDS READS WRITES       logs CLIENTS in; of each READS + WRITES clients READS read and WRITES write;
- *                                                         prints the reads and the writes a second
- *        load late PORT CLIENTS SECONDS PAUSE             logs CLIENTS in, which read, each so many microseconds after its last reply;
+ *        load ask PORT CLIENTS SECONDS READS WRITES KEYS  logs CLIENTS in; of each READS + WRITES clients READS read and WRITES write,
+ *                                                         at random keys below KEYS; prints the reads and the writes a second
+ *        load late PORT CLIENTS SECONDS PAUSE KEYS        logs CLIENTS in, which read, each so many microseconds after its last reply;
  *                                                         prints the reads a second, and how many microseconds half of them took at most, and 99 of 100
  *        load logins PORT COUNT BYTES                     logs in wrongly, in random order, as a known user and as an unknown one, COUNT times each
  *                                                         on average, with passwords of BYTES bytes;
@@ -20,9 +20,9 @@
 #include <time.h>
 #include <unistd.h>
 
-enum { ROWS = 65536, MOST = 1 << 16 };
+enum { MOST = 1 << 16 };
 
-static int port_number, reply_bytes;
+static int port_number, reply_bytes, keys;
 static volatile int stopped;
 static int keeps_times;
 static useconds_t pause_between;
@@ -153,7 +153,7 @@ static double part(const struct times *times, double share)
 
 static size_t statement(struct client *client, unsigned char *frame)
 {
-	int key = (int)(rand_r(&client->seed) % ROWS);
+	int key = (int)(rand_r(&client->seed) % (unsigned)keys);
 	int length = sprintf((char *)frame + 5, client->writes ? "UPDATE t SET v = v + 1 WHERE k = %d" : "SELECT v FROM t WHERE k = %d", key);
 	put_length(frame, (size_t)length + 1);
 	frame[4] = 2;
@@ -294,11 +294,13 @@ int main(int count, char **words)
 	if (count == 4 && !strcmp(words[1], "echo")) {
 		reply_bytes = atoi(words[3]);
 		serve_echo();
-	} else if (count == 7 && !strcmp(words[1], "ask")) {
+	} else if (count == 8 && !strcmp(words[1], "ask")) {
+		keys = atoi(words[7]);
 		load(atoi(words[3]), atof(words[4]), atoi(words[5]), atoi(words[6]));
-	} else if (count == 6 && !strcmp(words[1], "late")) {
+	} else if (count == 7 && !strcmp(words[1], "late")) {
 		keeps_times = 1;
 		pause_between = (useconds_t)atoi(words[5]);
+		keys = atoi(words[6]);
 		load(atoi(words[3]), atof(words[4]), 1, 0);
 	} else if (count == 5 && !strcmp(words[1], "logins")) {
 		log_in_wrongly(atoi(words[3]), (size_t)atoi(words[4]));
