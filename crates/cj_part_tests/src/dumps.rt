@@ -101,6 +101,9 @@ fn changed_bytes_of_a_dump_are_refused_at_their_field(rt: HostRuntime) -> Result
             bytes.extend_from_slice(&EMPTY_TABLE[at + 1..])?;
         }
         assert!(rt; refusal_of_dump(alloc, &bytes) == refusal, "{at}");
+        if let Ok(dump) = decode(alloc, &bytes) {
+            assert!(rt; dump.source == byte);
+        }
     }
     Ok(())
 }

@@ -11,11 +11,13 @@ const NAME_TAKEN: Result<u64, &str> = Err("a dump or a marker has the name alrea
 
 const LAST_HOST: Result<u64, &str> = Err("the backend is the last enabled host of a table");
 
-const BACKEND_FAILED: Result<u64, &str> = Err("backend 0 failed");
+const BACKEND_FAILED: Result<u64, &str> = Err("backend 1 failed");
 
 const STORE_FAILED: Result<u64, &str> = Err("the store of the dumps failed");
 
 const CREATE: &str = "CREATE TABLE t (k INTEGER PRIMARY KEY)";
+
+const INSERT: &str = "INSERT INTO t VALUES (1)";
 
 #[test]
 fn a_name_is_given_once(rt: HostRuntime) -> Result<(), Fail> {
@@ -55,27 +57,31 @@ fn each_table_keeps_an_enabled_host(rt: HostRuntime) -> Result<(), Fail> {
     Ok(())
 }
 
-/// The backend fails when it is asked what it holds, and then the store when the dump is written.
+/// The backend fails when it is asked what it holds, and then the store when the dump is written: opening the shelf
+/// takes three calls of the store, and a dump four.
 #[test]
 fn a_backup_that_fails_leaves_the_backend_disabled(rt: HostRuntime) -> Result<(), Fail> {
     let alloc = rt.alloc();
-    let fails = Vec::from_array(alloc, [2])?;
-    let one = backend(alloc, fails, Flags::raised(alloc)?);
-    let other = backend(alloc, Vec::new(alloc), Flags::raised(alloc)?);
     let steps = [
         Step::Ask(CREATE),
-        Step::Backup(0, "d", BACKEND_FAILED),
-        Step::Backup(0, "e", NOT_ENABLED),
-        Step::Reenable(0, Ok(1)),
-        Step::Backup(0, "d", NAME_TAKEN),
-        Step::Backup(0, "e", STORE_FAILED),
-        Step::Reenable(0, Ok(1)),
-        Step::Backup(0, "f", Ok(1)),
-        Step::Audit(b"b1 t base 0\n"),
+        Step::Backup(1, "d", BACKEND_FAILED),
+        Step::Backup(1, "e", NOT_ENABLED),
+        Step::Reenable(1, Ok(1)),
+        Step::Backup(1, "d", NAME_TAKEN),
+        Step::Backup(1, "e", STORE_FAILED),
+        Step::Backup(1, "f", NOT_ENABLED),
+        Step::Ask(INSERT),
+        Step::Reenable(1, Ok(2)),
+        Step::Backup(1, "f", Ok(2)),
+        Step::Audit(b"b0 t base 1\n1\n"),
     ];
-    // Opening the shelf takes three calls of the store.
-    let shelf_fails = Vec::from_array(alloc, [4])?;
-    let placement = replicated(&rt, alloc)?;
-    play(&rt, alloc, placement, one, other, shelf_fails, &steps)?;
+    for call in 4..8 {
+        let one = backend(alloc, Vec::new(alloc), Flags::raised(alloc)?);
+        let fails = Vec::from_array(alloc, [2])?;
+        let other = backend(alloc, fails, Flags::raised(alloc)?);
+        let shelf_fails = Vec::from_array(alloc, [call])?;
+        let placement = replicated(&rt, alloc)?;
+        play(&rt, alloc, placement, one, other, shelf_fails, &steps)?;
+    }
     Ok(())
 }

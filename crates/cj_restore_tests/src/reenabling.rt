@@ -8,6 +8,8 @@ use std::test::Fail;
 
 const ALREADY_ENABLED: Result<u64, &str> = Err("the backend is enabled already");
 
+const FAILED: Result<u64, &str> = Err("backend 1 failed");
+
 const NEEDS_DUMP: Result<u64, &str> = Err("the backend needs a dump");
 
 const DUMP_LACKS: Result<u64, &str> = Err("the dump lacks a table of the backend");
@@ -64,6 +66,31 @@ fn a_backend_that_is_out_loads_the_dump_of_another(rt: HostRuntime) -> Result<()
     ];
     let placement = replicated(&rt, alloc)?;
     play(&rt, alloc, placement, one, other, Vec::new(alloc), &steps)?;
+    Ok(())
+}
+
+/// The backend fails in an entry, which is its third call. As it comes back it is called to load the dump, and then in
+/// that entry.
+#[test]
+fn a_backend_that_fails_on_its_way_back_comes_back_again(rt: HostRuntime) -> Result<(), Fail> {
+    let alloc = rt.alloc();
+    let steps = [
+        Step::Ask(CREATE),
+        Step::Backup(1, "d", Ok(1)),
+        Step::Reenable(1, Ok(1)),
+        Step::Ask(FIRST_ROW),
+        Step::ReenableBy(1, "d", FAILED),
+        Step::Audit(b"b0 t base 1\n1\n"),
+        Step::ReenableBy(1, "d", Ok(2)),
+        Step::Audit(b"b0 t base 1\n1\nb1 t base 1\n1\n"),
+    ];
+    for call in [4, 5] {
+        let one = backend(alloc, Vec::new(alloc), Flags::raised(alloc)?);
+        let fails = Vec::from_array(alloc, [3, call])?;
+        let other = backend(alloc, fails, Flags::raised(alloc)?);
+        let placement = replicated(&rt, alloc)?;
+        play(&rt, alloc, placement, one, other, Vec::new(alloc), &steps)?;
+    }
     Ok(())
 }
 

@@ -1,13 +1,13 @@
 //! Inputs that end early.
 
 use crate::handed::{
-    C1, CREATE, DONE_0, DONE_1, INSERT, ONE_ROW, SELECT, accepted, check_pipe, session,
+    C1, CREATE, DONE_0, DONE_2, INSERT_TWO, SELECT_FALLING, TWO_ROWS, accepted, check_pipe, session,
 };
 use std::process::Abort;
 use std::test::Fail;
 
-/// The worked session: its input is 123 bytes, and its replies are 71.
-const WORKED: [&str; 3] = [CREATE, INSERT, SELECT];
+/// The worked session: its input is 149 bytes, and its replies are 86.
+const WORKED: [&str; 3] = [CREATE, INSERT_TWO, SELECT_FALLING];
 
 /// What is written of the worked session's replies, and the status, if only so many bytes of its
 /// input come, fewer than all.
@@ -18,8 +18,8 @@ fn written_of(count: usize) -> (usize, u8) {
         18 => (13, 0),
         19..=68 => (13, 4),
         69 => (26, 0),
-        70..=102 => (26, 4),
-        103 => (39, 0),
+        70..=112 => (26, 4),
+        113 => (39, 0),
         _ => (39, 4),
     }
 }
@@ -28,8 +28,8 @@ fn written_of(count: usize) -> (usize, u8) {
 fn a_cut_loses_nothing_that_was_answered(rt: HostRuntime) -> Result<(), Fail> {
     let alloc = rt.alloc();
     let input = session(alloc, &WORKED)?;
-    assert_eq!(rt; input.len(), 123);
-    let output = accepted(alloc, &[DONE_0, DONE_1, ONE_ROW])?;
+    assert_eq!(rt; input.len(), 149);
+    let output = accepted(alloc, &[DONE_0, DONE_2, TWO_ROWS])?;
     for count in 0..input.len() {
         let (cut, _) = input.split_at(count);
         let (length, status) = written_of(count);

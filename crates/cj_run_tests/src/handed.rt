@@ -30,8 +30,11 @@ pub const CREATE: &str = "CREATE TABLE t (k INTEGER PRIMARY KEY, v TEXT)";
 /// A statement that adds the row (1, 'a').
 pub const INSERT: &str = "INSERT INTO t VALUES (1, 'a')";
 
-/// A query for all rows of table `t`.
-pub const SELECT: &str = "SELECT * FROM t";
+/// A statement that adds the rows (1, 'a') and (2, 'b').
+pub const INSERT_TWO: &str = "INSERT INTO t VALUES (1, 'a'), (2, 'b')";
+
+/// A query for all rows of table `t`, in falling key.
+pub const SELECT_FALLING: &str = "SELECT * FROM t ORDER BY k DESC";
 
 /// The reply that no row was changed.
 pub const DONE_0: &[u8] = b"\x00\x00\x00\x09\x81\x00\x00\x00\x00\x00\x00\x00\x00";
@@ -39,9 +42,12 @@ pub const DONE_0: &[u8] = b"\x00\x00\x00\x09\x81\x00\x00\x00\x00\x00\x00\x00\x00
 /// The reply that one row was changed.
 pub const DONE_1: &[u8] = b"\x00\x00\x00\x09\x81\x00\x00\x00\x00\x00\x00\x00\x01";
 
-/// The row (1, 'a') of columns k and v.
-pub const ONE_ROW: &[u8] =
-    b"\x00\x00\x00\x1c\x82\x00\x02\x00\x01k\x00\x01v\x00\x00\x00\x01\x01\x00\x00\x00\x00\x00\x00\x00\x01\x02\x00\x00\x00\x01a";
+/// The reply that two rows were changed.
+pub const DONE_2: &[u8] = b"\x00\x00\x00\x09\x81\x00\x00\x00\x00\x00\x00\x00\x02";
+
+/// The rows (2, 'b') and (1, 'a') of columns k and v.
+pub const TWO_ROWS: &[u8] =
+    b"\x00\x00\x00\x2b\x82\x00\x02\x00\x01k\x00\x01v\x00\x00\x00\x02\x01\x00\x00\x00\x00\x00\x00\x00\x02\x02\x00\x00\x00\x01b\x01\x00\x00\x00\x00\x00\x00\x00\x01\x02\x00\x00\x00\x01a";
 
 /// Appends the frame of a Query.
 pub fn query(input: &mut Vec<u8>, text: &str) -> Result<(), Fail> {
