@@ -3,6 +3,11 @@
  * usage: load echo PORT REPLY_BYTES                       answers each frame with a frame of so many bytes
  *        load ask PORT CLIENTS SECONDS READS WRITES KEYS  logs CLIENTS in; of each READS + WRITES clients READS read and WRITES write,
  *                                                         at random keys below KEYS; prints the reads and the writes a second
+ *        load late PORT CLIENTS SECONDS PAUSE KEYS        logs CLIENTS in, which read, each so many microseconds after its last reply;
+ *                                                         prints the reads a second, and how many microseconds half of them took at most, and 99 of 100
+ *        load logins PORT COUNT BYTES                     logs in wrongly, in random order, as a known user and as an unknown one, COUNT times each
+ *                                                         on average, with passwords of BYTES bytes;
+ *                                                         prints the microseconds of both: their mean, the variance of that, and the median
  * A frame is four bytes of length, and as many bytes. */
 #include <arpa/inet.h>
 #include <netinet/tcp.h>
@@ -19,6 +24,8 @@ enum { MOST = 1 << 16 };
 
 static int port_number, reply_bytes, keys;
 static volatile int stopped;
+static int keeps_times;
+static useconds_t pause_between;
 
 static void fail(const char *what)
 {
@@ -70,6 +77,13 @@ static int take_frame(int at, unsigned char *body)
 	return body[0];
 }
 
+static double now(void)
+{
+	struct timespec moment;
+	clock_gettime(CLOCK_MONOTONIC, &moment);
+	return (double)moment.tv_sec + (double)moment.tv_nsec / 1e9;
+}
+
 static void *echo(void *given)
 {
 	int at = (int)(intptr_t)given;
@@ -101,11 +115,41 @@ static void serve_echo(void)
 	}
 }
 
+/* Times in nanoseconds. */
+struct times {
+	uint32_t *all;
+	size_t count, room;
+};
+
 struct client {
 	int at, writes;
 	unsigned seed;
 	uint64_t done;
+	struct times times;
 };
+
+static void keep(struct times *times, double seconds)
+{
+	if (times->count == times->room) {
+		times->room = times->room ? 2 * times->room : 4096;
+		times->all = realloc(times->all, times->room * sizeof *times->all);
+		if (!times->all)
+			fail("memory");
+	}
+	times->all[times->count++] = seconds < 4 ? (uint32_t)(seconds * 1e9) : UINT32_MAX;
+}
+
+static int compare(const void *left, const void *right)
+{
+	uint32_t a = *(const uint32_t *)left, b = *(const uint32_t *)right;
+	return a < b ? -1 : a > b;
+}
+
+/* The microseconds that this part of the times don't pass, which are in order. */
+static double part(const struct times *times, double share)
+{
+	return times->count ? times->all[(size_t)(share * (double)(times->count - 1))] / 1e3 : 0;
+}
 
 static size_t statement(struct client *client, unsigned char *frame)
 {
@@ -122,35 +166,50 @@ static void *ask(void *given)
 	unsigned char frame[256], body[MOST];
 	while (!stopped) {
 		size_t count = statement(client, frame);
+		double begun = now();
 		int kind = give(client->at, frame, count) ? take_frame(client->at, body) : -1;
 		if (kind != 0x81 && kind != 0x82) {
 			fprintf(stderr, "load: a reply of kind %d\n", kind);
 			exit(1);
 		}
 		client->done++;
+		if (keeps_times)
+			keep(&client->times, now() - begun);
+		if (pause_between)
+			usleep(pause_between);
 	}
 	return NULL;
 }
 
 static int connected(void)
 {
-	static const unsigned char login[] = "\0\0\0\x0e\x01\0\3ann\0\6secret";
-	unsigned char body[MOST];
 	int at = socket(AF_INET, SOCK_STREAM, 0), on = 1;
 	struct sockaddr_in address = {.sin_family = AF_INET, .sin_port = htons((uint16_t)port_number), .sin_addr.s_addr = htonl(INADDR_LOOPBACK)};
 	if (connect(at, (struct sockaddr *)&address, sizeof address))
 		fail("connect");
 	setsockopt(at, IPPROTO_TCP, TCP_NODELAY, &on, sizeof on);
+	return at;
+}
+
+static int logged_in(void)
+{
+	static const unsigned char login[] = "\0\0\0\x0e\x01\0\3ann\0\6secret";
+	unsigned char body[MOST];
+	int at = connected();
 	if (!give(at, login, sizeof login - 1) || take_frame(at, body) != 0x81)
 		fail("login");
 	return at;
 }
 
-static double now(void)
+/* Tells how often they read, and how long that took. */
+static void tell_times(struct client *clients, int count, double spent)
 {
-	struct timespec moment;
-	clock_gettime(CLOCK_MONOTONIC, &moment);
-	return (double)moment.tv_sec + (double)moment.tv_nsec / 1e9;
+	struct times times = {0};
+	for (int i = 0; i < count; i++)
+		for (size_t j = 0; j < clients[i].times.count; j++)
+			keep(&times, clients[i].times.all[j] / 1e9);
+	qsort(times.all, times.count, sizeof *times.all, compare);
+	printf("%.0f %.1f %.1f\n", (double)times.count / spent, part(&times, 0.5), part(&times, 0.99));
 }
 
 static void load(int clients, double seconds, int reads, int writes)
@@ -159,7 +218,7 @@ static void load(int clients, double seconds, int reads, int writes)
 	pthread_t *threads = calloc((size_t)clients, sizeof *threads);
 	uint64_t sums[2] = {0, 0};
 	for (int i = 0; i < clients; i++)
-		all[i] = (struct client){.at = connected(), .writes = i % (reads + writes) >= reads, .seed = (unsigned)i + 1};
+		all[i] = (struct client){.at = logged_in(), .writes = i % (reads + writes) >= reads, .seed = (unsigned)i + 1};
 	double start = now();
 	for (int i = 0; i < clients; i++)
 		if (pthread_create(&threads[i], NULL, ask, &all[i]))
@@ -171,20 +230,82 @@ static void load(int clients, double seconds, int reads, int writes)
 	double spent = now() - start;
 	for (int i = 0; i < clients; i++)
 		sums[all[i].writes] += all[i].done;
-	printf("%.0f %.0f\n", (double)sums[0] / spent, (double)sums[1] / spent);
+	if (keeps_times)
+		tell_times(all, clients, spent);
+	else
+		printf("%.0f %.0f\n", (double)sums[0] / spent, (double)sums[1] / spent);
+}
+
+/* Writes the frame of a wrong login, and returns its length. */
+static size_t wrong_login(unsigned char *frame, const char *user, size_t bytes)
+{
+	size_t length = 1 + 2 + 3 + 2 + bytes;
+	put_length(frame, length);
+	memcpy(frame + 4, "\1\0\3", 3);
+	memcpy(frame + 7, user, 3);
+	frame[10] = (unsigned char)(bytes >> 8);
+	frame[11] = (unsigned char)bytes;
+	memset(frame + 12, 'x', bytes);
+	return 4 + length;
+}
+
+static void tell_logins(struct times *times)
+{
+	double sum = 0, squares = 0, count = (double)times->count;
+	for (size_t i = 0; i < times->count; i++)
+		sum += times->all[i] / 1e3;
+	for (size_t i = 0; i < times->count; i++) {
+		double away = times->all[i] / 1e3 - sum / count;
+		squares += away * away;
+	}
+	qsort(times->all, times->count, sizeof *times->all, compare);
+	printf("%.4f %.4f %.4f\n", sum / count, squares / (count - 1) / count, part(times, 0.5));
+}
+
+static void log_in_wrongly(int count, size_t bytes)
+{
+	static const unsigned char refused[19] = {0x8f, 0, 3};
+	static unsigned char frames[2][MOST + 16];
+	struct times times[2] = {{0}, {0}};
+	size_t lengths[2] = {wrong_login(frames[0], "ann", bytes), wrong_login(frames[1], "anm", bytes)};
+	unsigned char body[MOST];
+	unsigned seed = 1;
+	int at = connected();
+	for (int i = 0; i < 2 * count; i++) {
+		int unknown = rand_r(&seed) >> 8 & 1;
+		double begun = now();
+		if (!give(at, frames[unknown], lengths[unknown]) || take_frame(at, body) != 0x8f)
+			fail("a wrong login");
+		keep(&times[unknown], now() - begun);
+		if (memcmp(body, refused, sizeof refused)) {
+			fprintf(stderr, "load: a wrong login has another reply\n");
+			exit(1);
+		}
+	}
+	tell_logins(&times[0]);
+	tell_logins(&times[1]);
 }
 
 int main(int count, char **words)
 {
-	if (count == 4 && !strcmp(words[1], "echo")) {
-		port_number = atoi(words[2]);
-		reply_bytes = atoi(words[3]);
-		serve_echo();
-	}
-	if (count != 8 || strcmp(words[1], "ask"))
+	if (count < 3)
 		return 2;
 	port_number = atoi(words[2]);
-	keys = atoi(words[7]);
-	load(atoi(words[3]), atof(words[4]), atoi(words[5]), atoi(words[6]));
+	if (count == 4 && !strcmp(words[1], "echo")) {
+		reply_bytes = atoi(words[3]);
+		serve_echo();
+	} else if (count == 8 && !strcmp(words[1], "ask")) {
+		keys = atoi(words[7]);
+		load(atoi(words[3]), atof(words[4]), atoi(words[5]), atoi(words[6]));
+	} else if (count == 7 && !strcmp(words[1], "late")) {
+		keeps_times = 1;
+		pause_between = (useconds_t)atoi(words[5]);
+		keys = atoi(words[6]);
+		load(atoi(words[3]), atof(words[4]), 1, 0);
+	} else if (count == 5 && !strcmp(words[1], "logins")) {
+		log_in_wrongly(atoi(words[3]), (size_t)atoi(words[4]));
+	} else {
+		return 2;
+	}
 	return 0;
 }

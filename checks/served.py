@@ -6,6 +6,8 @@ them is a transaction. Other tables are no concern of these.
 import bisect
 import collections
 import contextlib
+import ctypes
+import hashlib
 import itertools
 import os
 import re
@@ -32,6 +34,8 @@ TABLES = ["CREATE TABLE w (k INTEGER PRIMARY KEY, v INTEGER)", "CREATE TABLE u (
 ENTRY = re.compile(r"^\d+ session=\d+ tx=(\d+) user=\S* (.*)$", re.MULTILINE)
 ROW = re.compile(r"(?:(INSERT) INTO w VALUES \((\d+), 1\)|DELETE FROM w WHERE k = (\d+))")
 MOVE = re.compile(r"UPDATE u SET v = v ([+-]) 1 WHERE k = (\d+) AND v <> (\d+)")
+# The number of the system's call that gives a file of another process.
+PIDFD_GETFD = 438
 # What else the console is asked, and the form of the answer.
 ASIDES = [("show cache", r"hits=\d+ misses=\d+"), ("abort 1", "refused NotOrphan 1"), ("enable b7", "refused Backend"), ("enable b0 none", "refused Dump"),
           ("enable b0", "refused AlreadyEnabled"), ("shew cache", "refused Command"), ("", "refused Command")]
@@ -128,8 +132,6 @@ class Client(threading.Thread):
         self.steps, self.sent = [], None
         # The replies to the moves of each transfer by its key, and how it ended; None where its end wasn't answered.
         self.moves, self.ends = {}, {}
-        # When each point read began, and how long it took.
-        self.reads = []
 
     def ask(self, line):
         self.told["requests"] += 1
@@ -170,9 +172,9 @@ class Client(threading.Thread):
     def read(self):
         """Reads a row of its own."""
         if self.rows:
-            begun, key = time.monotonic(), self.draws.choice(self.rows)
+            key = self.draws.choice(self.rows)
             expect(f"client {self.number}, row {key}", self.ask(f"SELECT v FROM w WHERE k = {key}"), ["1 rows of v", "  1"])
-            self.reads.append((begun, time.monotonic() - begun))
+            self.told["reads"] += 1
 
     def sum(self):
         expect(f"client {self.number}, the sum of the accounts", self.ask("SELECT SUM(v) FROM u"), ["1 rows of sum", "  0"])
@@ -216,11 +218,20 @@ class Log:
         self.rows, self.sum, self.places, self.counted = set(), 0, {}, collections.defaultdict(list, {"0, 0": [0]})
         # The accounts now; the transaction that has changed some, 0 for none, and how; the replies to moves; the transfers that were committed.
         self.accounts, self.holder, self.draft, self.replies, self.committed = [0] * ACCOUNTS, 0, [], {}, set()
-        self.entries = 0
-        listed = subprocess.run([program, "log", conf], capture_output=True, text=True, timeout=PATIENCE)
-        expect("the listing of the log", (listed.returncode, listed.stderr), (0, ""))
-        for tx, text in ENTRY.findall(listed.stdout):
+        # How many entries were read, their bytes as they are listed, and the digest of these.
+        self.entries, self.bytes, self.digest = 0, 0, hashlib.sha256().digest()
+        self.program, self.conf = program, conf
+        self.read()
+
+    def read(self):
+        """Takes the entries that are new. Those before have to be the same."""
+        listed = subprocess.run([self.program, "log", self.conf], capture_output=True, timeout=PATIENCE)
+        expect("the listing of the log", (listed.returncode, listed.stderr), (0, b""))
+        if hashlib.sha256(listed.stdout[:self.bytes]).digest() != self.digest:
+            raise Failed(f"the log's first {self.entries} entries are no longer the same")
+        for tx, text in ENTRY.findall(listed.stdout[self.bytes:].decode()):
             self.take(int(tx), text)
+        self.bytes, self.digest = len(listed.stdout), hashlib.sha256(listed.stdout).digest()
 
     def take(self, tx, text):
         self.entries += 1
@@ -411,6 +422,31 @@ class Serving:
         """Its threads, open files and resident memory in KB."""
         return self.status("Threads"), len(os.listdir(f"/proc/{self.run.pid}/fd")), self.status("VmRSS")
 
+    def private_memory(self):
+        """The memory in KB that it shares with no other process and no file."""
+        with open(f"/proc/{self.run.pid}/smaps_rollup", encoding="utf-8") as rollup:
+            return next(int(row.split()[1]) for row in rollup if row.startswith("Pss_Anon:"))
+
+    def pause(self, seconds):
+        """Stops the process for so many seconds."""
+        self.run.send_signal(signal.SIGSTOP)
+        time.sleep(seconds)
+        self.run.send_signal(signal.SIGCONT)
+
+    def socket_of(self, at):
+        """The server's socket of a connection. Until it is closed here, it stays open."""
+        here = at.socket.getsockname()[1]
+        with open("/proc/net/tcp", encoding="utf-8") as rows:
+            node = next(row.split()[9] for row in rows if row.split()[1:3] == [f"0100007F:{self.port:04X}", f"0100007F:{here:04X}"])
+        files = f"/proc/{self.run.pid}/fd"
+        file = next(int(file) for file in os.listdir(files) if os.readlink(f"{files}/{file}") == f"socket:[{node}]")
+        process = os.pidfd_open(self.run.pid)
+        taken = ctypes.CDLL(None, use_errno=True).syscall(PIDFD_GETFD, process, file, 0)
+        os.close(process)
+        if taken < 0:
+            raise OSError(ctypes.get_errno(), "the server's socket can't be taken")
+        return socket.socket(fileno=taken)
+
 
 def free_port():
     with socket.socket() as probe:
@@ -430,7 +466,7 @@ def make_tables(serving):
 
 
 def administer(serving, draws, until, name, told):
-    """Disables, backs up and enables, in turn, and asks other things, until a moment. Dumps get names that begin with `name`."""
+    """Disables, backs up and enables, in turn, asks other things and stops the process for a while, until a moment. Dumps get names that begin so."""
     console = serving.console
     for number in itertools.count(1):
         if time.monotonic() >= until:
@@ -448,7 +484,7 @@ def administer(serving, draws, until, name, told):
         if len(shown) != 2 or not all(re.match(r"b[01] enabled position=\d+ .*faults=0 ", line) for line in shown):
             raise Failed(f"the console shows {shown}")
         console.match(*draws.choice(ASIDES))
-        time.sleep(draws.uniform(0, 0.2))
+        draws.choice((serving.pause, time.sleep, time.sleep, time.sleep))(draws.uniform(0, 0.2))
 
 
 def work(serving, draws, seconds, name, told):

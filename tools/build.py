@@ -1,7 +1,10 @@
-"""Proves and builds the program `cjc`, and says on standard error how far that is. `demo`, the checks and `bench/run` get the program from here."""
+"""Proves and builds the program `cjc`, and says on standard error how far that is. `demo`, the checks and `bench/run` get the program from here.
+
+It also compiles the load of `bench/`."""
 import os
 import re
 import select
+import shutil
 import subprocess
 import sys
 import tempfile
@@ -114,3 +117,10 @@ def run_unproved(words, data, files):
             sys.exit("\n".join(["rt try failed in crates/cjc:", *last]))
         written.seek(0)
         return written.read(), int(ended[1])
+
+
+def load(folder):
+    """Compiles bench/load.c into a folder, and returns the path."""
+    path = os.path.join(folder, "load")
+    subprocess.run([shutil.which("gcc") or "cc", "-O2", "-pthread", "-o", path, os.path.join(ROOT, "bench", "load.c")], check=True)
+    return path

@@ -39,7 +39,7 @@ Exit statuses: docs/OPERATIONS.md";
 
 const LOG_NOTES: &str = "Input:   none
 Output:  a line for each entry and marker (docs/FORMATS.md)
-Log:     CONF.log, which nothing else may use meanwhile
+Log:     CONF.log, also while another program uses it
 Example: cjc log example/c1.toml
 Exit statuses: docs/OPERATIONS.md";
 

@@ -23,6 +23,7 @@ pub struct FileStore<R> {
     faults: u64,
     /// The kind of the last error of the system.
     cause: Option<ErrorKind>,
+    is_read: bool,
 }
 
 impl<R: Files<File = File>> FileStore<R> {
@@ -65,6 +66,7 @@ impl<R: Files<File = File>> FileStore<R> {
             standing,
             faults: 0,
             cause: None,
+            is_read: false,
         }
     }
 
@@ -75,6 +77,11 @@ impl<R: Files<File = File>> FileStore<R> {
             (None, Standing::Refused(error)) => Some(error.kind()),
             (cause, _) => cause,
         }
+    }
+
+    /// Returns whether the store was asked for its length or for bytes.
+    pub fn is_read(&self) -> bool {
+        self.is_read
     }
 
     /// Opens the file for writing, or makes it, if these bytes at `at` would change it and it isn't
@@ -145,6 +152,7 @@ impl<R: Files<File = File>> Store for FileStore<R> {
     ghost only_now = { λ s image left. left };
 
     fn len(&mut self) -> Result<u64, Failed> {
+        self.is_read = true;
         match self.standing.len() {
             Ok(len) if len <= MOST => Ok(len),
             Ok(_) => {
@@ -159,6 +167,7 @@ impl<R: Files<File = File>> Store for FileStore<R> {
     }
 
     fn read_at(&mut self, at: u64, buf: &mut [u8]) -> Result<usize, Failed> {
+        self.is_read = true;
         match self.standing.read_at(at, buf) {
             Ok(count) => Ok(count),
             Err(error) => {

@@ -5,7 +5,7 @@ ghost use Rattle.cj_explain.specs.Explanations.{HasLine, HasNoLine};
 
 /// The status at which a line is told, what the line is about, and the line. What the line of a script is about is its
 /// first word. The first row of a status is for all that no other row of it is about.
-pub const LINES: [(u8, &str, &str); 36] = [
+pub const LINES: [(u8, &str, &str); 42] = [
     (
         2,
         "",
@@ -73,6 +73,31 @@ pub const LINES: [(u8, &str, &str); 36] = [
         "the recovery log, CONF.log, can't be written: the disk is full\n",
     ),
     (
+        7,
+        "dumps failed",
+        "the dumps' file, CONF.dumps, failed: check it, and the disk\n",
+    ),
+    (
+        7,
+        "dumps denied",
+        "the dumps' file, CONF.dumps, may not be opened: check its mode and its folder's\n",
+    ),
+    (
+        7,
+        "dumps used",
+        "another program uses the dumps' file, CONF.dumps: end that one first\n",
+    ),
+    (
+        7,
+        "dumps not regular",
+        "the dumps' file, CONF.dumps, is no regular file: move away what stands there\n",
+    ),
+    (
+        7,
+        "dumps full",
+        "the dumps' file, CONF.dumps, can't be written: the disk is full\n",
+    ),
+    (
         8,
         "",
         "CONF.log is damaged, or isn't of this configuration: restore a copy, or move it away\n",
@@ -81,6 +106,11 @@ pub const LINES: [(u8, &str, &str); 36] = [
         8,
         "listing",
         "CONF.log is damaged, or a program is adding to it: then list it again\n",
+    ),
+    (
+        8,
+        "dumps",
+        "CONF.dumps is damaged, or isn't a file of dumps: restore a copy, or move it away\n",
     ),
     (
         9,

@@ -16,6 +16,10 @@ pub struct Traces<'a> {
     pub conf: Option<ErrorKind>,
     /// The same for the recovery log's file.
     pub log: Option<ErrorKind>,
+    /// The same for the file of the dumps.
+    pub dumps: Option<ErrorKind>,
+    /// Whether the dumps were read. They are read only once the log was accepted.
+    pub has_read_dumps: bool,
 }
 
 fn conf_cause(kind: ErrorKind) -> &'static str {
@@ -28,23 +32,31 @@ fn conf_cause(kind: ErrorKind) -> &'static str {
     }
 }
 
-fn log_cause(kind: ErrorKind) -> &'static str {
+/// What is told of the file of the recovery log, and of that of the dumps.
+fn store_causes(kind: ErrorKind) -> (&'static str, &'static str) {
     match kind {
-        ErrorKind::PermissionDenied | ErrorKind::ReadOnlyFilesystem => "log denied",
-        ErrorKind::WouldBlock => "log used",
-        ErrorKind::IsADirectory | ErrorKind::NotADirectory | ErrorKind::Unsupported =>
+        ErrorKind::PermissionDenied | ErrorKind::ReadOnlyFilesystem => (
+            "log denied",
+            "dumps denied",
+        ),
+        ErrorKind::WouldBlock => ("log used", "dumps used"),
+        ErrorKind::IsADirectory | ErrorKind::NotADirectory | ErrorKind::Unsupported => (
             "log not regular",
-        ErrorKind::StorageFull | ErrorKind::QuotaExceeded => "log full",
-        _ => "log failed",
+            "dumps not regular",
+        ),
+        ErrorKind::StorageFull | ErrorKind::QuotaExceeded => ("log full", "dumps full"),
+        _ => ("log failed", "dumps failed"),
     }
 }
 
 impl Traces<'_> {
+    /// Names the first file that failed. A file is used only if those before it didn't fail.
     fn file_cause(&self) -> &'static str {
-        match (self.conf, self.log) {
-            (Some(kind), _) => conf_cause(kind),
-            (None, Some(kind)) => log_cause(kind),
-            (None, None) => "",
+        match (self.conf, self.log, self.dumps) {
+            (Some(kind), _, _) => conf_cause(kind),
+            (None, Some(kind), _) => store_causes(kind).0,
+            (None, None, Some(kind)) => store_causes(kind).1,
+            (None, None, None) => "",
         }
     }
 
@@ -61,6 +73,7 @@ impl Traces<'_> {
             4 if self.input.has_ended() => "cut",
             7 => self.file_cause(),
             8 if self.lists_log() => "listing",
+            8 if self.has_read_dumps => "dumps",
             10 => match self.line {
                 Some(number) => self.input.cause_of_line(number),
                 None => "a lost line",

@@ -1,44 +1,37 @@
 -- Backends that were just made, beside a store of dumps.
-use Rattle.std.proofs.Common.{◌≡◌, refl, ap, ◌∙◌, Bool, true, false, List, [], ◌∷◌, ℕ, All, Some, None, Option, length, map, replicate}
+use Rattle.std.proofs.Common.{◌≡◌, refl, sym, ap, subst, ◌∙◌, Bool, true, false, List, [], ℕ, All, Some, None, Option, map, replicate}
 use Rattle.std.specs.Prelude.{if◌then◌else◌}
-use Rattle.std.proofs.lemmas.List.Elements.{All-head, All-map, All-tail, All-weaker}
+use Rattle.std.proofs.lemmas.List.Elements.{All-replicate}
 use Rattle.cj_model.specs.declared.database.Slot.{Slot}
 use Rattle.cj_mem.specs.MemoryBackends.{MemoryState, fresh_state, never_armed}
 use Rattle.cj_beside.specs.Besides.{told_beside}
+use Rattle.cj_beside.proofs.Wrapping.{of_wrapped}
 use Rattle.cj_core.specs.Starts.{BackendState, HaveBegunNone, state_by}
+use Rattle.cj_top.proofs.NewBackends.{map_replicate}
 use Rattle.cj_top.specs.Configured.{new_backend}
-
--- what is alike for each is alike for all
-all_alike : {X A : Type 0} (P : X → Type 0) (f : X → A) (a : A) → ((x : X) → P x → f x ≡ a) → (xs : List X) → All P xs → map f xs ≡ replicate (length xs) a
-all_alike P f a each [] all = refl
-all_alike P f a each (x ∷ xs) all = ap (λ y. y ∷ map f xs) (each x (All-head P x xs all)) ∙ ap (λ ys. a ∷ ys) (all_alike P f a each xs (All-tail P x xs all))
 
 -- what is told of an empty one
 told_empty : (kept : Bool) → told_beside kept (Some []) ≡ (if kept then Some [] else None)
 told_empty true = refl
 told_empty false = refl
 
-module _ {X : Type 0} (inner : X → MemoryState) (kept : Bool) (xs : List X) (new : All (λ (x : X). inner x ≡ fresh_state) xs) where
-  abbrev seen : X → BackendState
-  seen = state_by {X = X} (λ x. told_beside kept (inner x).told) (λ x. 0) (λ x. (inner x).asks) (λ x. (inner x).login) (λ x. never_armed)
-
-  abbrev seen_by : MemoryState → BackendState
-  seen_by s = record { told = told_beside kept s.told; faults = 0; asks = s.asks; login = s.login; arming = never_armed }
-
-  fresh_seen : (x : X) → inner x ≡ fresh_state → seen x ≡ new_backend kept
-  fresh_seen x is = ap seen_by is ∙ ap (λ (t : Option (List Slot)). record { told = t; faults = 0; asks = 0; login = None; arming = never_armed }) (told_empty kept)
+module _ {X : Type 0} (inner : X → MemoryState) (kept : Bool) (n : ℕ) (xs : List X) (new : map inner xs ≡ replicate n fresh_state) where
+  -- each is alike, in all that goes by the backend in it
+  alike : {A : Type 0} (part : MemoryState → A) → map (λ (x : X). part (inner x)) xs ≡ replicate n (part fresh_state)
+  alike part = of_wrapped inner part xs (replicate n fresh_state) new ∙ map_replicate part n fresh_state
 
   -- they are seen as new
-  pub new_seen : map seen xs ≡ replicate (length xs) (new_backend kept)
-  new_seen = all_alike (λ (x : X). inner x ≡ fresh_state) seen (new_backend kept) fresh_seen xs new
+  pub new_seen : map (state_by {X = X} (λ x. told_beside kept (inner x).told) (λ x. 0) (λ x. (inner x).asks) (λ x. (inner x).login) (λ x. never_armed)) xs ≡ replicate n (new_backend kept)
+  new_seen =
+      alike (λ (s : MemoryState). record { told = told_beside kept s.told; faults = 0; asks = s.asks; login = s.login; arming = never_armed })
+      ∙ ap (λ (t : Option (List Slot)). replicate n (record { told = t; faults = 0; asks = 0; login = None; arming = never_armed })) (told_empty kept)
 
   -- where they tell what they hold, they hold nothing
   pub new_empty : kept ≡ true → All (λ (t : Option (List Slot)). t ≡ Some []) (map (λ (x : X). told_beside kept (inner x).told) xs)
   new_empty on =
-      All-map (λ (t : Option (List Slot)). t ≡ Some []) (λ (x : X). told_beside kept (inner x).told) xs
-      (All-weaker (λ (x : X). inner x ≡ fresh_state) (λ (x : X). told_beside kept (inner x).told ≡ Some [])
-      (λ x is. ap (λ (s : MemoryState). told_beside kept s.told) is ∙ (told_empty kept ∙ ap (λ (t : Bool). if t then Some [] else None) on)) xs new)
+      subst (All (λ (t : Option (List Slot)). t ≡ Some [])) (sym (alike (λ (s : MemoryState). told_beside kept s.told)))
+      (All-replicate (λ (t : Option (List Slot)). t ≡ Some []) n (told_beside kept (Some [])) (told_empty kept ∙ ap (λ (t : Bool). if t then Some [] else None) on))
 
   -- and they have begun no transaction
   pub new_begun_none : HaveBegunNone (map (λ (x : X). (inner x).begun) xs)
-  new_begun_none = All-map (λ (b : List ℕ). b ≡ []) (λ (x : X). (inner x).begun) xs (All-weaker (λ (x : X). inner x ≡ fresh_state) (λ (x : X). (inner x).begun ≡ []) (λ x is. ap (λ (s : MemoryState). s.begun) is) xs new)
+  new_begun_none = subst HaveBegunNone (sym (alike (λ (s : MemoryState). s.begun))) (All-replicate (λ (ts : List ℕ). ts ≡ []) n [] refl)

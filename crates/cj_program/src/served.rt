@@ -1,6 +1,6 @@
 //! The command `serve`: a console beside sessions over the connections of a port.
 
-ghost use Rattle.std.specs.Prelude.{◌≡◌, ◌≢◌, ◌&&◌, true, All, Some, OnErr, IfErr, IfOk, replicate, length};
+ghost use Rattle.std.specs.Prelude.{◌≡◌, ◌≢◌, ◌&&◌, true, Some, OnErr, IfErr, IfOk, map, replicate, length};
 ghost use Rattle.cj_outside.specs.Stores.{Only};
 ghost use Rattle.cj_conf.specs.Confs.{IsUsable};
 ghost use Rattle.cj_core.specs.Starts.{StartsFrom};
@@ -14,7 +14,7 @@ ghost use Rattle.cj_program.specs.Served.{ComesByServe, RunsServe, StopsAtDumps,
 
 use crate::dumps::stop_at_dumps;
 use crate::program::Ended;
-use cj_beside::Beside;
+use cj_beside::{Beside, beside};
 use cj_book::StartError;
 use cj_conf::Conf;
 use cj_console::ConsoleEnd;
@@ -25,7 +25,7 @@ use cj_outside::{Clock, Sink, Source, Store};
 use cj_port::{Port, Spawner};
 use cj_serve::ServeEnd;
 use cj_served::{Unserved, serve_over, status_of_serving};
-use cj_top::{any_backends, are_in_memory, parts_of, stop_at_log};
+use cj_top::{any_backends, are_in_memory, memory_backends, parts_of, stop_at_log};
 use std::alloc::Global;
 use std::sync::{Arc, Wait};
 use std::thread::Threads;
@@ -35,14 +35,9 @@ fn backends_beside<D: Store>(
     alloc: Global,
     count: u8,
 ) -> Result<Backends<Beside<MemBackend, D>>, NoMemory>
-    ensures many { IfOk result (λ backends. length backends ≡ count) }
-    ensures new { IfOk result (All (λ b. b.inner ≡ fresh_state)) }
+    ensures { IfOk result (λ backends. map (λ b. b.inner) backends ≡ replicate count fresh_state) }
 {
-    let mut backends = Backends::new(alloc);
-    for _ in 0..count {
-        backends.push(Beside::new(MemBackend::new(alloc)))?;
-    }
-    Ok(backends)
+    beside(memory_backends(alloc, count)?)
 }
 
 /// Serves over the backends of a configuration. Answers how the console and the accepting ended.

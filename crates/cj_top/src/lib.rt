@@ -23,7 +23,9 @@ mod refused;
 mod scripted;
 mod words;
 
-pub use configured::{Unconfigured, any_backends, are_in_memory, conf_of, parts_of, tell_refusal};
+pub use configured::{
+    Unconfigured, any_backends, are_in_memory, conf_of, memory_backends, parts_of, tell_refusal,
+};
 pub use files::Paths;
 pub use laws::completeness_follows;
 pub use piped::{PipeError, pipe};

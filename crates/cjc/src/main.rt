@@ -10,13 +10,12 @@ use cj_edge::{
     FileStore, Patient, StdSink, StdSource, SystemClock, WordsError, fill_standard_streams, words,
 };
 use cj_edge_net::TcpPort;
-use cj_explain::{Noted, Traces, explain, tell};
+use cj_explain::{Noted, Notes, Traces, explain, tell};
 use cj_outside::Sink;
 use cj_port::Spawner;
-use cj_program::{paths, run};
+use cj_program::{Ended, paths, run};
 use std::alloc::Global;
 use std::fs::File;
-use std::io::ErrorKind;
 use std::net::{Net, TcpListener, TcpStream};
 use std::process::ExitCode;
 use std::rt::Files;
@@ -51,40 +50,46 @@ fn dumps_store<R: Files<File = File>>(rt: R, words: &[String], path: String) -> 
     }
 }
 
-/// The files that the program uses.
-struct Stores<R> {
+/// The files that the program uses, and the clock.
+struct Objects<R> {
     conf: FileStore<R>,
     log: FileStore<R>,
     dumps: FileStore<R>,
+    clock: Arc<SystemClock<R>, Global>,
 }
 
 /// Opens the configuration, the recovery log and the dumps, or returns `None` if memory runs out. Where the words are no
 /// command `run` uses none of them.
-fn open_stores<R: Files<File = File> + Copy>(
+fn open_objects<R: Files<File = File> + Copy>(
     alloc: Global,
     rt: R,
     words: &[String],
-) -> Option<Stores<R>> {
+) -> Option<Objects<R>> {
     let path = paths(words).map_or("", |paths| paths.conf);
     let conf_path = String::from_str(alloc, path).ok()?;
     let log_path = format!(in alloc; "{path}.log").ok()?;
     let dumps_path = format!(in alloc; "{path}.dumps").ok()?;
-    Some(Stores {
+    Some(Objects {
         conf: FileStore::open_to_read(rt, conf_path),
         log: log_store(rt, words, log_path),
         dumps: dumps_store(rt, words, dumps_path),
+        clock: Arc::new(alloc, SystemClock::new(rt)).ok()?,
     })
 }
 
-/// Listens at the address that the words name, if they name one.
+/// Listens at the address that the words name, if they name one. `None` if it can't be had.
 fn port<R: Net<Listener = TcpListener, Stream = TcpStream>>(
     alloc: Global,
     rt: &R,
     words: &[String],
-) -> TcpPort {
-    match address(words) {
+) -> Option<TcpPort> {
+    let port = match address(words) {
         Some(address) => TcpPort::bind(rt, alloc, address),
-        None => TcpPort::none(alloc),
+        None => return Some(TcpPort::none(alloc)),
+    };
+    match port.cause() {
+        Some(_) => None,
+        None => Some(port),
     }
 }
 
@@ -99,6 +104,25 @@ fn refuse_words<E: Sink>(error: WordsError, errors: &mut E) -> ExitCode {
     }
 }
 
+/// Returns what a run left behind, in its streams and its files.
+fn traces<'a, R: Files<File = File>>(
+    words: &'a [String],
+    input: &'a Notes,
+    errors: &Notes,
+    conf: &FileStore<R>,
+    ended: &Ended<FileStore<R>, FileStore<R>>,
+) -> Traces<'a> {
+    Traces {
+        words,
+        input,
+        line: errors.number(),
+        conf: conf.cause(),
+        log: ended.log.as_ref().and_then(|log| log.cause()),
+        dumps: ended.dumps.as_ref().and_then(|dumps| dumps.cause()),
+        has_read_dumps: ended.dumps.as_ref().is_some_and(|dumps| dumps.is_read()),
+    }
+}
+
 fn main(rt: HostRuntime) -> ExitCode {
     // Before the first file, which would take the place of a stream that is closed. Which one that is isn't known,
     // and none was used yet, so the status is the one for out of memory.
@@ -110,52 +134,31 @@ fn main(rt: HostRuntime) -> ExitCode {
         Ok(words) => words,
         Err(error) => return refuse_words(error, &mut errors),
     };
-    let Some(
-        Stores {
-            mut conf,
-            log,
-            dumps,
-        },
-    ) = open_stores(rt.alloc(), rt, &words)
-    else {
+    let Some(mut objects) = open_objects(rt.alloc(), rt, &words) else {
         return ExitCode::from(1);
     };
-    let store_cause = log.cause().or(dumps.cause());
     let mut input = Noted::new(rt.alloc(), StdSource::new(Patient::new(rt.reader(), rt)));
-    let mut output = StdSink::new(Patient::new(rt.stdout(), rt));
-    let Ok(clock) = Arc::new(rt.alloc(), SystemClock::new(rt)) else {
-        return ExitCode::from(1);
+    // Nothing is started where the address can't be had: the console alone would serve nobody.
+    let Some(mut port) = port(rt.alloc(), &rt, &words) else {
+        tell(9, "", &mut errors);
+        return ExitCode::from(9);
     };
-    let mut port = port(rt.alloc(), &rt, &words);
-    let mut spawner = Spawner::new(rt.alloc(), CONNECTIONS);
-    // Where the address can't be had nothing is started: the console alone would serve nobody.
-    let status = if address(&words).is_some() && port.cause().is_some() {
-        9
-    } else {
-        run(
-            &rt,
-            rt.alloc(),
-            &words,
-            &mut conf,
-            log,
-            dumps,
-            &mut input,
-            &mut output,
-            &mut errors,
-            &clock,
-            &mut port,
-            &mut spawner,
-        )
-        .status
-    };
-    let traces = Traces {
-        words: &words,
-        input: input.notes(),
-        line: errors.notes().number(),
-        conf: conf.cause(),
-        // If the configuration's file had no error, that of the log or of the dumps is the one that failed.
-        log: store_cause.or(Some(ErrorKind::Other)),
-    };
-    explain(rt.alloc(), status, &traces, &mut conf, &mut errors);
+    let ended = run(
+        &rt,
+        rt.alloc(),
+        &words,
+        &mut objects.conf,
+        objects.log,
+        objects.dumps,
+        &mut input,
+        &mut StdSink::new(Patient::new(rt.stdout(), rt)),
+        &mut errors,
+        &objects.clock,
+        &mut port,
+        &mut Spawner::new(rt.alloc(), CONNECTIONS),
+    );
+    let status = ended.status;
+    let traces = traces(&words, input.notes(), errors.notes(), &objects.conf, &ended);
+    explain(rt.alloc(), status, &traces, &mut objects.conf, &mut errors);
     ExitCode::from(status)
 }

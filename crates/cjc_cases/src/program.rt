@@ -90,6 +90,8 @@ fn explain_over(alloc: Global, case: &Case, status: u8, objects: &mut Objects)
         line: objects.errors.notes().number(),
         conf: None,
         log: None,
+        dumps: None,
+        has_read_dumps: false,
     };
     explain(
         alloc,

@@ -11,10 +11,10 @@ use Rattle.cj_program.proofs.served.serve_configured.Goals as goal
 -- ---- backends in memory, beside the store of the dumps
 
 pub serve_over-requires-clause-empty : goal.serve_over-requires-clause-empty
-serve_over-requires-clause-empty g c κs within = λ told. new_empty (λ b. b.inner) g.D.Store.tells c.in-Ok.backends c.in-Ok.ensures.new told
+serve_over-requires-clause-empty g c κs within = λ told. new_empty (λ b. b.inner) g.D.Store.tells c.count.result c.in-Ok.backends c.in-Ok.ensures told
 
 pub serve_over-requires-clause-none : goal.serve_over-requires-clause-none
-serve_over-requires-clause-none g c κs within = new_begun_none (λ b. b.inner) g.D.Store.tells c.in-Ok.backends c.in-Ok.ensures.new
+serve_over-requires-clause-none g c κs within = new_begun_none (λ b. b.inner) g.D.Store.tells c.count.result c.in-Ok.backends c.in-Ok.ensures
 
 pub returns-then-are_in_memory-clause-runs : goal.returns-then-are_in_memory-clause-runs
 returns-then-are_in_memory-clause-runs g c =
@@ -22,8 +22,7 @@ returns-then-are_in_memory-clause-runs g c =
     let parts = c.in-Ok-parts_of in
     let memory : in_memory conf ≡ true = by_kinds conf.kinds c.as_slice.result.now c.are_in_memory.result true c.as_slice.ensures c.are_in_memory.ensures c.if-are_in_memory.true in
     let told : g.D.Store.tells ≡ (in_memory conf && g.D.Store.tells) = ap (λ (b : Bool). b && g.D.Store.tells) (sym memory) in
-    let many : length c.in-Ok.backends ≡ length conf.placement.names = c.in-Ok.ensures.many ∙ c.count.ensures.count in
-    let seen = new_seen (λ b. b.inner) g.D.Store.tells c.in-Ok.backends c.in-Ok.ensures.new ∙ ap (λ (n : ℕ). replicate n (new_backend g.D.Store.tells)) many in
+    let seen = new_seen (λ b. b.inner) g.D.Store.tells c.count.result c.in-Ok.backends c.in-Ok.ensures ∙ ap (λ (n : ℕ). replicate n (new_backend g.D.Store.tells)) c.count.ensures.count in
     let before : Counted = record { input = g.I.Source.faults c.args.input.now; output = g.O.Sink.faults c.args.output.now; port = g.P.Port.faults c.args.port.now; accepted = g.P.Port.accepted c.args.port.now } in
     let now : Counted = record { input = g.I.Source.faults c.serve_over.new.input; output = g.O.Sink.faults c.serve_over.new.output; port = g.P.Port.faults c.serve_over.new.port; accepted = g.P.Port.accepted c.serve_over.new.port } in
     runs_serve conf g.D.Store.tells (Found g.S.Store.tells (g.S.Store.held c.args.log)) c.args.dumps g.D.Store.tells told parts.parts.book.placement parts.ensures.placement _ seen g.D.Store.held g.D.Store.faults (g.I.Source.left c.args.input.now)
@@ -36,8 +35,7 @@ returns-then-are_in_memory-clause-refused g c =
     let parts = c.in-Ok-parts_of in
     let memory : in_memory conf ≡ true = by_kinds conf.kinds c.as_slice.result.now c.are_in_memory.result true c.as_slice.ensures c.are_in_memory.ensures c.if-are_in_memory.true in
     let told : g.D.Store.tells ≡ (in_memory conf && g.D.Store.tells) = ap (λ (b : Bool). b && g.D.Store.tells) (sym memory) in
-    let many : length c.in-Ok.backends ≡ length conf.placement.names = c.in-Ok.ensures.many ∙ c.count.ensures.count in
-    let seen = new_seen (λ b. b.inner) g.D.Store.tells c.in-Ok.backends c.in-Ok.ensures.new ∙ ap (λ (n : ℕ). replicate n (new_backend g.D.Store.tells)) many in
+    let seen = new_seen (λ b. b.inner) g.D.Store.tells c.count.result c.in-Ok.backends c.in-Ok.ensures ∙ ap (λ (n : ℕ). replicate n (new_backend g.D.Store.tells)) c.count.ensures.count in
     refuses_serving conf g.D.Store.tells (Found g.S.Store.tells (g.S.Store.held c.args.log)) c.args.dumps g.D.Store.tells told parts.parts.book.placement parts.ensures.placement _ seen g.S.Store.faults g.S.Store.held g.S.Store.tells g.D.Store.faults
     g.D.Store.held c.args.log c.serve_over.result c.serve_over.ensures.refused
 
