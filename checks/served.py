@@ -21,7 +21,8 @@ import threading
 import time
 
 sys.dont_write_bytecode = True
-from common import Failed, expect, frames, start
+from common import Failed, expect, frames, start, wire
+from cjc.local import free_port
 
 # Each answer and each end has to come within so many seconds, on a machine that is busy with proofs too.
 PATIENCE = 60
@@ -87,7 +88,7 @@ class Connection:
 
     def reply(self):
         """The bytes of the next reply, without its length."""
-        return self.take(struct.unpack(">I", self.take(4))[0])
+        return self.take(wire.body_length(self.take(wire.LENGTH.size)))
 
     def ask(self, line):
         """The reply to a request, as lines of words."""
@@ -446,12 +447,6 @@ class Serving:
         if taken < 0:
             raise OSError(ctypes.get_errno(), "the server's socket can't be taken")
         return socket.socket(fileno=taken)
-
-
-def free_port():
-    with socket.socket() as probe:
-        probe.bind(("127.0.0.1", 0))
-        return probe.getsockname()[1]
 
 
 def make_tables(serving):

@@ -10,8 +10,8 @@ from collections.abc import Sequence
 from typing import NoReturn, Optional
 
 from .address import Address, address_of, with_login
-from .connection import TIMEOUT, Connection
-from .errors import Error
+from .connection import TIMEOUT, Connection, checked_timeout
+from .errors import Error, InterfaceError
 from .shell import INTERRUPTED, NO_CONNECTION, USAGE, Options, Quit, Shell
 from .terminal import interact
 
@@ -40,17 +40,33 @@ class _Run(argparse.Action):
         namespace.runs.append((self.dest, values))
 
 
+def _server(text: str) -> Address:
+    """The address that the command names. (What was given may hold a password, so it isn't repeated.)"""
+    try:
+        return address_of(text)
+    except InterfaceError as error:
+        raise argparse.ArgumentTypeError(str(error)) from None
+
+
+def _seconds(text: str) -> Optional[float]:
+    """The limit of each request; None for 0."""
+    try:
+        return checked_timeout(float(text) or None)
+    except (ValueError, InterfaceError):
+        raise argparse.ArgumentTypeError("it is a number of seconds, or 0 for no limit") from None
+
+
 def _parser() -> argparse.ArgumentParser:
     words = _Parser(prog="python3 -m cjc", description="A shell for cjc, which connects to a server, `cjc serve CONF ADDR`.",
                     epilog=_EPILOG, formatter_class=argparse.RawDescriptionHelpFormatter)
-    words.add_argument("server", metavar="HOST:PORT", help="the server, or cjc://user@host:port")
+    words.add_argument("server", metavar="HOST:PORT", type=_server, help="the server, or cjc://user@host:port")
     words.add_argument("-U", "--user", help="the user; else that of the URL, or CJC_USER")
     words.add_argument("-c", "--command", metavar="SQL", action=_Run, help="runs this; may be repeated, also with -f")
     words.add_argument("-f", "--file", metavar="FILE", action=_Run, help="runs this file; - is standard input")
     words.add_argument("--keep-going", action="store_true", help="goes on after a statement that was refused")
     words.add_argument("--csv", action="store_true", help="writes rows as CSV")
     words.add_argument("-q", "--quiet", action="store_true", help="writes rows alone")
-    words.add_argument("--timeout", type=float, default=TIMEOUT, metavar="SECONDS",
+    words.add_argument("--timeout", type=_seconds, default=TIMEOUT, metavar="SECONDS",
                        help=f"the limit of each request ({TIMEOUT:g}); 0 for none")
     words.set_defaults(runs=[])
     return words
@@ -58,7 +74,7 @@ def _parser() -> argparse.ArgumentParser:
 
 def _address(given: argparse.Namespace) -> Address:
     """The server, the user and the password. Fails with Error, and with EOFError where none is typed."""
-    address = with_login(address_of(given.server), given.user or None, None)
+    address: Address = with_login(given.server, given.user or None, None)
     if address.user is None:
         address = with_login(address, os.environ.get("CJC_USER") or getpass.getuser(), None)
     if address.password is None:
@@ -85,10 +101,10 @@ def _run(shell: Shell, runs: Sequence[tuple[str, str]]) -> int:
 
 def _session(given: argparse.Namespace) -> int:
     """Connects, runs what is given or typed, and closes. Returns the exit status."""
-    address, timeout = _address(given), None if given.timeout == 0 else given.timeout
+    address = _address(given)
     interactive = not given.runs and sys.stdin.isatty() and sys.stdout.isatty()
     options = Options(interactive, given.keep_going, given.csv, False, given.quiet)
-    shell = Shell(lambda: Connection(address, timeout, autocommit=True), options, sys.stdout, sys.stderr)
+    shell = Shell(lambda: Connection(address, given.timeout, autocommit=True), options, sys.stdout, sys.stderr)
     try:
         return interact(shell) if interactive else _run(shell, given.runs)
     except Quit as end:

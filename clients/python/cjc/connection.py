@@ -31,6 +31,13 @@ def outcome_of(verb: str, sent: bool, inside: bool) -> Outcome:
     return Outcome("the open transaction is rolled back" if inside else "nothing was changed", False)
 
 
+def checked_timeout(timeout: Optional[float]) -> Optional[float]:
+    """The timeout, which is one. Fails with InterfaceError."""
+    if timeout is not None and not (isinstance(timeout, (int, float)) and 0 < timeout <= _TIMEOUT_MOST):
+        raise InterfaceError("a timeout is a number of seconds above 0, at most 1,000,000, or None")
+    return timeout
+
+
 def connect(
     host: str,
     port: Optional[int] = None,
@@ -85,10 +92,8 @@ class Connection:
         self._closed = False
         self._broken = ""
         user, password = address.login()
-        if timeout is not None and not (isinstance(timeout, (int, float)) and 0 < timeout <= _TIMEOUT_MOST):
-            raise InterfaceError("a timeout is a number of seconds above 0, at most 1,000,000, or None")
         try:
-            self._link = Link(address.host, address.port, timeout)
+            self._link = Link(address.host, address.port, checked_timeout(timeout))
         except (OSError, UnicodeError) as error:
             # (a UnicodeError is that of a host that can't be a name)
             raise OperationalError(

@@ -72,7 +72,10 @@ class Link:
             if self._poll(0) and not self._is_new:
                 self._fail_early()
             self._is_new = False
-            sent = self._socket.send(request)
+            try:
+                sent = self._socket.send(request)
+            except BlockingIOError:
+                sent = 0
             if sent < len(request):
                 self._send_rest(memoryview(request)[sent:], end)
         except OSError as error:

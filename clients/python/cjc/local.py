@@ -16,7 +16,7 @@ from typing import IO, Optional
 from .errors import Error, OperationalError
 
 HOST = "127.0.0.1"
-# An answer takes no more seconds, and an end that began by itself.
+# An answer takes no more seconds unless more are given, and an end that began by itself takes no more.
 PATIENCE, _END = 60.0, 5.0
 # A command that changes nothing, and its answer, which shows where the answer before it ends.
 _MARK, _MARKED = f"abort {2 ** 64 - 1}", f"refused NotOrphan {2 ** 64 - 1}"
@@ -67,8 +67,11 @@ class Server:
             self.kill()
             raise OperationalError(f"the server ended with status {process.returncode}: {said}") from None
 
-    def ask(self, command: str) -> list[str]:
-        """The lines that the console answers to a command. Fails with OperationalError where it has ended."""
+    def ask(self, command: str, timeout: Optional[float] = PATIENCE) -> list[str]:
+        """The lines that the console answers to a command. Fails with OperationalError where it has ended, or is late.
+
+        `timeout` is in seconds, for each line; None waits as long as it takes.
+        """
         process = self._running()
         assert process.stdin is not None
         try:
@@ -78,7 +81,7 @@ class Server:
             raise OperationalError("the console has ended") from error
         lines: list[str] = []
         while not lines or lines[-1] != _MARKED:
-            lines.append(self._line())
+            lines.append(self._line(timeout))
         return lines[:-1]
 
     def pause(self) -> None:
@@ -129,12 +132,12 @@ class Server:
             raise Error("the server isn't started")
         return self._process
 
-    def _line(self) -> str:
+    def _line(self, timeout: Optional[float]) -> str:
         """The next line of the console."""
         try:
-            line = self._answers.get(timeout=PATIENCE)
+            line = self._answers.get(timeout=timeout)
         except queue.Empty:
-            raise OperationalError(f"the console gave no answer in {PATIENCE:g} seconds") from None
+            raise OperationalError(f"the console gave no answer in {timeout:g} seconds") from None
         if line is None:
             raise OperationalError("the console has ended")
         return line

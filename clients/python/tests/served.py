@@ -17,9 +17,6 @@ PROGRAM = os.environ.get("CJC_PROGRAM")
 # A request or its reply takes no longer. (Programs that look for faults while they run are slow.)
 PATIENCE = 60.0
 
-# A build that looks for faults while it runs then lacks memory as any other does.
-os.environ.setdefault("ASAN_OPTIONS", "allocator_may_return_null=1")
-
 ROOT = os.path.abspath(os.path.join(os.path.dirname(__file__), "..", "..", ".."))
 CONFIGURATION = os.path.join(ROOT, "example", "c1.toml")
 

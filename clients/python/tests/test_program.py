@@ -84,10 +84,10 @@ def limited(process: int, what: int, most: int) -> Iterator[None]:
         resource.prlimit(process, what, before)
 
 
-def _writable_memory(process: int) -> int:
-    """The bytes of memory that a process has for itself, as the system counts them for its limit."""
+def _memory(process: int, kind: str) -> int:
+    """The bytes of memory of a kind that a process has, as the system counts them for its limits."""
     with open(f"/proc/{process}/status", encoding="ascii") as lines:
-        return next(1024 * int(line.split()[1]) for line in lines if line.startswith("VmData:"))
+        return next(1024 * int(line.split()[1]) for line in lines if line.startswith(f"{kind}:"))
 
 
 def _unread(port: int) -> Iterator[int]:
@@ -301,11 +301,13 @@ class Starved(OverKilled):
 
     def test_without_memory(self) -> None:
         """A read and a change that need a lot are refused, and a start repairs what that leaves."""
+        if _memory(self.server.pid, "VmSize") > 2 ** 40:
+            self.skipTest("a build with the address sanitizer stops where it gets no memory")
         small, large = self.create("small"), self.create("large")
         cursor = self.connect(autocommit=True).cursor()
         cursor.executemany(f"INSERT INTO {small} VALUES (?, '')", [(k,) for k in range(4096)])
         cursor.executemany(f"INSERT INTO {large} VALUES (?, ?)", [(k, "x" * 4096) for k in range(64)])
-        with limited(self.server.pid, resource.RLIMIT_DATA, _writable_memory(self.server.pid)):
+        with limited(self.server.pid, resource.RLIMIT_DATA, _memory(self.server.pid, "VmData")):
             for statement, code in ((f"SELECT {large}.v FROM {small}, {large}", 43),
                                     (f"UPDATE {small} SET v = '{'y' * 4096}'", 44), (f"SELECT k FROM {small}", 20)):
                 with self.assertRaises(cjc.OperationalError) as caught:

@@ -152,7 +152,15 @@ lines'), (4, 'esc \x1b[31m'); SELECT k, v FROM {self.table} ORDER BY v; SELECT C
         self.assertEqual(status, 2)
         self.assertIn("3 BadLogin", err)
         self.assertIn("HINT", err)
-        self.assertEqual(self.shell("--nothing")[0], 1)
+        for words in (("--nothing",), ("--timeout", "-1"), ("--timeout", "inf"), ("--timeout", "soon")):
+            self.assertEqual(self.shell(*words)[0], 1)
+        for address in ("localhost", "localhost:0", "cjc://ann:s3cret/x@localhost:1"):
+            with contextlib.redirect_stderr(io.StringIO()) as said, self.assertRaises(SystemExit) as end:
+                main([address])
+            self.assertEqual(end.exception.code, 1)
+            self.assertIn("argument HOST:PORT: a", said.getvalue())
+            self.assertNotIn("s3cret", said.getvalue())
+        self.assertEqual(self.shell("--timeout", "0", given="")[0], 0)
         self.assertEqual(self.shell(given="")[0], 0)
         with mock.patch.dict(os.environ), contextlib.redirect_stderr(io.StringIO()) as said, \
                 mock.patch.object(sys, "stdin", io.StringIO("")):
