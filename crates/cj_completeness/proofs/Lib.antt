@@ -1,0 +1,3 @@
+pub mod CompletedServing
+pub mod QuietSessions
+pub mod ShownFailures

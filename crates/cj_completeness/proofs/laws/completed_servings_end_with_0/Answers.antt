@@ -1,0 +1,7 @@
+use Rattle.cj_completeness.proofs.CompletedServing.{accepted_is_done}
+use Rattle.cj_completeness.proofs.laws.completed_servings_end_with_0.Goals as goal
+use Rattle.cj_program.specs.Served.{served_by}
+
+pub returns : goal.returns
+returns g c = λ conf found dumps left left' held held' before now status completes told c accepted short.
+    accepted_is_done found dumps left left' held held' before now status g.F.Store.tells (g.F.Store.held conf) (λ c. served_by c g.D.Store.tells g.D.Store.held g.D.Store.faults) completes told c accepted short
