@@ -34,13 +34,13 @@ pub other_code : (r : Refusal) → (r.code < UNFINISHED) ⊎ (LOG_FAULT < r.code
 other_code r (inl low) = rw (ne_eqb r.code UNFINISHED (λ e. omega (arith, low, e)), ne_eqb r.code READ_FAULT (λ e. omega (arith, low, e)), ne_eqb r.code LOG_FAULT (λ e. omega (arith, low, e))) refl
 other_code r (inr high) = rw (ne_eqb r.code UNFINISHED (λ e. omega (arith, high, e)), ne_eqb r.code READ_FAULT (λ e. omega (arith, high, e)), ne_eqb r.code LOG_FAULT (λ e. omega (arith, high, e))) refl
 
-tells_if : (unfinished read store blamed : Bool) → ((unfinished || read) && blamed) ≡ true → (unfinished || (read || store)) ≡ true
-tells_if true read store blamed is = refl
+tells_if : (entry query store blamed : Bool) → ((entry || query) && blamed) ≡ true → (entry || (query || store)) ≡ true
+tells_if true query store blamed is = refl
 tells_if false true store blamed is = refl
 tells_if false false store blamed is = absurd (cc is)
 
-tells_too : (unfinished read store : Bool) → store ≡ true → (unfinished || (read || store)) ≡ true
-tells_too true read store is = refl
+tells_too : (entry query store : Bool) → store ≡ true → (entry || (query || store)) ≡ true
+tells_too true query store is = refl
 tells_too false true store is = refl
 tells_too false false store is = is
 

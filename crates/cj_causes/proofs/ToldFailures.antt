@@ -36,10 +36,10 @@ login_tells_none None false = refl
 
 forbidden_if : (t : Bool) (q r : Refusal) → (if t then None else Some q) ≡ Some r → tells_of_failure (Refused q) ≡ false → tells_of_failure (Refused r) ≡ false
 forbidden_if true q r is none = absurd (cc is)
-forbidden_if false q r is none = subst (λ (x : Refusal). tells_of_failure (Refused x) ≡ false) (cc is) none
+forbidden_if false q r is none = let same : q ≡ r = cc is in subst (λ (x : Refusal). tells_of_failure (Refused x) ≡ false) same none
 
 forbidden_unless : (t : Bool) (q r : Refusal) → (if t then Some q else None) ≡ Some r → tells_of_failure (Refused q) ≡ false → tells_of_failure (Refused r) ≡ false
-forbidden_unless true q r is none = subst (λ (x : Refusal). tells_of_failure (Refused x) ≡ false) (cc is) none
+forbidden_unless true q r is none = let same : q ≡ r = cc is in subst (λ (x : Refusal). tells_of_failure (Refused x) ≡ false) same none
 forbidden_unless false q r is none = absurd (cc is)
 
 forbidden_tells_none : (tx : ℕ) (a : Act) (r : Refusal) → forbidden_by tx a ≡ Some r → tells_of_failure (Refused r) ≡ false

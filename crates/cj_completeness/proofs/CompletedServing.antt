@@ -16,7 +16,7 @@ use Rattle.cj_dump.specs.declared.dump.Dump.{Dump}
 use Rattle.cj_log.specs.declared.item.LogItem.{LogItem}
 use Rattle.cj_records.proofs.OneList.{one_list}
 use Rattle.cj_records.specs.RecordFiles.{Finds}
-use Rattle.cj_shelf.specs.Shelves.{CountsOpenFault, HasBadBody, IsNoDump, KeepsDumps, Opens, bodies_of, shelf_magic}
+use Rattle.cj_shelf.specs.Shelves.{CountsOpenFault, HasBadBody, IsNoDump, KeepsDumps, Opens, dump_bodies, shelf_magic}
 use Rattle.cj_shelf.specs.declared.error.ShelfError.{ShelfError}
 use Rattle.cj_shelf.specs.declared.error.ShelfError.TheVariants as shelf_errors
 use Rattle.cj_console.specs.Answers.{Served, Standing}
@@ -40,17 +40,17 @@ none_more before now none rose = let same = none.same in let room = none.room in
 -- ---- bytes that keep dumps
 
 -- a body that is no dump's is none of theirs
-none_bad : (dumps before : List Dump) (body : List ℕ) (later : List (List ℕ)) → AllByRecursion IsDump dumps → bodies_of dumps ≡ bodies_of before ++ body ∷ later → IsNoDump body → ⊥
+none_bad : (dumps before : List Dump) (body : List ℕ) (later : List (List ℕ)) → AllByRecursion IsDump dumps → dump_bodies dumps ≡ dump_bodies before ++ body ∷ later → IsNoDump body → ⊥
 none_bad [] [] body later each is bad = absurd (cc is)
 none_bad [] (y ∷ before) body later each is bad = absurd (cc is)
 none_bad (x ∷ dumps) [] body later each is bad = bad x each.0 (sym (cc is))
 none_bad (x ∷ dumps) (y ∷ before) body later each is bad = none_bad dumps before body later each.1 (cc is) bad
 
 no_bad_dump : (bytes : List ℕ) (dumps : List Dump) → KeepsDumps bytes dumps → (offset : ℕ) → Finds shelf_magic bytes (Err offset) ⊎ HasBadBody bytes offset → ⊥
-no_bad_dump bytes dumps keeps offset (inl found) = let same = one_list shelf_magic bytes (Ok (bodies_of dumps)) (Err offset) refl keeps.found found in absurd (cc same)
+no_bad_dump bytes dumps keeps offset (inl found) = let same = one_list shelf_magic bytes (Ok (dump_bodies dumps)) (Err offset) refl keeps.found found in absurd (cc same)
 no_bad_dump bytes dumps keeps offset (inr has) =
-    let same = one_list shelf_magic bytes (Ok (bodies_of dumps)) (Ok has.0) refl keeps.found has.1 in
-    let bodies : bodies_of dumps ≡ has.0 = cc same in
+    let same = one_list shelf_magic bytes (Ok (dump_bodies dumps)) (Ok has.0) refl keeps.found has.1 in
+    let bodies : dump_bodies dumps ≡ has.0 = cc same in
     none_bad dumps has.2.before has.2.body has.2.later keeps.each (bodies ∙ has.2.parts) has.2.bad
 
 -- ---- what stops a serving

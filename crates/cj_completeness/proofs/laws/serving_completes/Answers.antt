@@ -1,7 +1,7 @@
 use Rattle.cj_completeness.proofs.CompletedServing.{command_whole, comes_whole, dumps_starved, log_starved}
 use Rattle.cj_completeness.proofs.QuietSessions.{did_not_fail}
 use Rattle.cj_completeness.proofs.laws.serving_completes.Goals as goal
-use Rattle.cj_program.specs.Served.{served_by}
+use Rattle.cj_program.specs.Served.{Counted, served_by}
 use Rattle.cj_top.specs.Logs.{Found}
 
 pub returns : goal.returns
@@ -12,8 +12,8 @@ returns g c = λ conf conf' log dumps back dumps_back input input' output output
     let sink = g.O.Sink in
     let ports = g.P.Port in
     let found = Found store.tells (store.held log) in
-    let before = record { input = source.faults input; output = sink.faults output; port = ports.faults port; accepted = ports.accepted port } in
-    let now = record { input = source.faults input'; output = sink.faults output'; port = ports.faults port'; accepted = ports.accepted port' } in
+    let before : Counted = record { input = source.faults input; output = sink.faults output; port = ports.faults port; accepted = ports.accepted port } in
+    let now : Counted = record { input = source.faults input'; output = sink.faults output'; port = ports.faults port'; accepted = ports.accepted port' } in
     command_whole found dumps (source.left input) (source.left input') (sink.held output) (sink.held output') before now status other no_input no_output no_port g.F.Store.tells (g.F.Store.held conf) _ _ _ _
     (λ c. served_by c dump_store.tells dump_store.held dump_store.faults) (λ quiet seven. did_not_fail _ (g.F.Store.faults conf) (g.F.Store.faults conf') quiet.0 no_conf seven)
     (λ c came. comes_whole found dumps (source.left input) (source.left input') (sink.held output) (sink.held output') before now status other no_input no_output no_port (served_by c dump_store.tells dump_store.held dump_store.faults) c _ _ _
