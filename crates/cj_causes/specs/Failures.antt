@@ -81,7 +81,6 @@ pub record CoverBlames (F G : List Event) (replies : List Reply) : Type 0 where
 abbrev pub IsViewAt : State Event SeatView → SeatView → Type 0
 IsViewAt s v = (i : ℕ) × (get_elem? s.views i ≡ some v)
 
--- while the count of backend b rose from `before` to `now`, it failed no more often than that; or the count stands at
--- its last value
-abbrev pub HasCountedFailures : List Event → ℕ → ℕ → ℕ → Type 0
-HasCountedFailures h b before now = (failures_noted h b + before ≤ now) ⊎ (now ≡ max_word)
+-- so many faults were counted while a count rose from `before` to `now`, or it stands at its last value
+abbrev pub HaveBeenCounted : ℕ → ℕ → ℕ → Type 0
+HaveBeenCounted n before now = (n + before ≤ now) ⊎ (now ≡ max_word)

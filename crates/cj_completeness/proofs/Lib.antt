@@ -1,3 +1,4 @@
 pub mod CompletedServing
 pub mod QuietSessions
 pub mod ShownFailures
+pub mod WholeInputs

@@ -11,10 +11,10 @@ ghost use Rattle.cj_place.specs.Layouts.{Layout};
 ghost use Rattle.cj_board.specs.declared.view.SeatView.{SeatView};
 ghost use Rattle.cj_conf.specs.declared.conf.Conf.{Conf};
 ghost use Rattle.cj_conf.specs.Confs.{conf_of};
+ghost use Rattle.cj_args.specs.declared.asked.Command.{Command};
 ghost use Rattle.cj_desk.specs.SessionTranscripts.{setting, ClientState};
 ghost use Rattle.cj_session.specs.Serving.{ServesSession};
 ghost use Rattle.cj_dump.specs.declared.dump.Dump.{Dump};
-ghost use Rattle.cj_log.specs.declared.item.LogItem.{LogItem};
 ghost use Rattle.cj_shelf.specs.Shelves.{ShelfState};
 ghost use Rattle.cj_locks.specs.Dumping.{BeginsDump};
 ghost use Rattle.cj_locks.specs.Restoring.{EnablesSince, LoadsBackend, ReplaysLog};
@@ -26,13 +26,14 @@ ghost use Rattle.cj_replay.specs.Reenabling.{Reenables};
 ghost use Rattle.cj_replay.specs.declared.reenabling.ReplayError.{ReplayError};
 ghost use Rattle.cj_backup.specs.Backups.{BacksUp};
 ghost use Rattle.cj_backup.specs.declared.backing.BackupError.{BackupError};
-ghost use Rattle.cj_top.specs.Completeness.{AnswersInput, is_end_by_input};
+ghost use Rattle.cj_top.specs.Completeness.{AnswersInput, CompletesCommand, is_end_by_input};
 ghost use Rattle.cj_top.specs.Configured.{WritesRefusal};
 ghost use Rattle.cj_top.specs.Logs.{Found, TellsRefusal};
 ghost use Rattle.cj_top.specs.Runs.{RefusesConf, RunsCommand, RunsConfigured};
 ghost use Rattle.cj_program.specs.Served.{ComesByServe, Counted, StopsAtDumps, StopsUnserved, TellsShelfRefusal, served_by};
 ghost use Rattle.cj_completeness.specs.Serving.{CompletesServing, CountsNoFault, KeepsLog, KeepsShelf, TellsShortInput};
 ghost use Rattle.cj_completeness.specs.ShownFailures.{ShowsFailed, failed_by_admin, failed_by_backup, failed_by_replay, failed_by_restore};
+ghost use Rattle.cj_completeness.specs.WholeInputs.{TellsWholeInput};
 
 use cj_desk::Desk;
 use cj_outside::{Sink, Source, Store};
@@ -64,6 +65,13 @@ pub fn failures_show_to_administrators<D: Store>()
     ensures backup { (tells kept : Bool) (l : Layout) (b : ℕ) (name : List ℕ) (old new : SeatView) (shelf now : ShelfState D) (error : BackupError) → BacksUp tells kept l b name old new shelf now (Err error) → ShowsFailed old new (failed_by_backup error) }
 {}
 
+/// A command that came to the end of its input has status 0 if it could take all of that: whole messages or a Quit, or lines
+/// that can all be played, of fewer than 2^62 bytes. So where nothing failed `run` ends with 0 over such an input and a
+/// configuration that is accepted, unless memory ran out or the log was refused (`completeness_follows` of `cj_top`).
+pub fn completed_commands_end_with_0()
+    ensures { (command : Command) (left held held' : Option (List ℕ)) (status : ℕ) (c : Conf) → CompletesCommand command left held held' status c → TellsWholeInput command c.placement.names left → status ≡ 0 }
+{}
+
 /// What `run` says of words that ask to serve, in its clause `serves`, leaves nothing unanswered where no count of faults
 /// rose, the log's store keeps a history, the dumps' store keeps dumps, and the status is not 1. Then the configuration is
 /// refused, or its input ended the console, and as many connections came as were asked for. Counts at the largest `u64`
@@ -85,8 +93,8 @@ pub fn serving_completes<F: Store, S: Store, D: Store, I: Source, O: Sink, E: Si
 {}
 
 /// So the status of such a serving is 0 if the configuration is accepted and the input has fewer than 2^62 bytes.
-pub fn completed_servings_end_with_0<F: Store, D: Store>()
-    ensures { (conf : F) (found : List LogItem → Type 0) (dumps : D) (left left' held held' : Option (List ℕ)) (before now : Counted) (status : ℕ) →
-        RefusesConf F.tells (F.held conf) (λ error. Unit {0}) (Unit {0}) status ⊎ RunsConfigured F.tells (F.held conf) (λ c. CompletesServing (served_by c D.tells D.held D.faults) c found dumps left left' held held' before now status) →
+pub fn completed_servings_end_with_0<F: Store, S: Store, D: Store>()
+    ensures { (conf : F) (log : S) (dumps : D) (left left' held held' : Option (List ℕ)) (before now : Counted) (status : ℕ) →
+        RefusesConf F.tells (F.held conf) (λ error. Unit {0}) (Unit {0}) status ⊎ RunsConfigured F.tells (F.held conf) (λ c. CompletesServing (served_by c D.tells D.held D.faults) c (Found S.tells (S.held log)) dumps left left' held held' before now status) →
         F.tells ≡ true → (c : Conf) → conf_of (F.held conf) ≡ Ok c → TellsShortInput left → status ≡ 0 }
 {}

@@ -11,6 +11,6 @@
 mod laws;
 
 pub use laws::{
-    completed_servings_end_with_0, failures_show_to_administrators, serving_completes,
-    sessions_answer_their_input,
+    completed_commands_end_with_0, completed_servings_end_with_0, failures_show_to_administrators,
+    serving_completes, sessions_answer_their_input,
 };
