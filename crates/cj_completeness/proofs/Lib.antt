@@ -1,4 +1,4 @@
-pub mod CompletedServing
+pub mod Serving
 pub mod QuietSessions
 pub mod ShownFailures
 pub mod WholeInputs

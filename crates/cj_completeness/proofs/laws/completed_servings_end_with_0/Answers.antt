@@ -1,4 +1,4 @@
-use Rattle.cj_completeness.proofs.CompletedServing.{accepted_is_done}
+use Rattle.cj_completeness.proofs.Serving.{accepted_is_done}
 use Rattle.cj_completeness.proofs.laws.completed_servings_end_with_0.Goals as goal
 use Rattle.cj_program.specs.Served.{served_by}
 use Rattle.cj_top.specs.Logs.{Found}

@@ -1,7 +1,7 @@
 use Rattle.std.proofs.Common.{◌≡◌, ℕ, Some}
 use Rattle.cj_book.specs.declared.error.StartError.{StartError}
 use Rattle.cj_shelf.specs.declared.error.ShelfError.{ShelfError}
-use Rattle.cj_completeness.proofs.CompletedServing.{command_whole, comes_whole, dumps_starved, log_starved}
+use Rattle.cj_completeness.proofs.Serving.{command_whole, comes_whole, dumps_starved, log_starved}
 use Rattle.cj_completeness.proofs.QuietSessions.{did_not_fail}
 use Rattle.cj_completeness.proofs.laws.serving_completes.Goals as goal
 use Rattle.cj_program.specs.Served.{Counted, StopsAtDumps, StopsUnserved, TellsShelfRefusal, served_by}
