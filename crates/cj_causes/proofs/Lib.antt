@@ -1,0 +1,4 @@
+pub mod CountedFailures
+pub mod Counting
+pub mod FailedTurns
+pub mod ToldFailures

@@ -1,0 +1,4 @@
+pub mod Serving
+pub mod QuietSessions
+pub mod ShownFailures
+pub mod WholeInputs

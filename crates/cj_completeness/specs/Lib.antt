@@ -1,0 +1,3 @@
+pub mod Serving
+pub mod ShownFailures
+pub mod WholeInputs
