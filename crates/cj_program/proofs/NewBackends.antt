@@ -1,6 +1,7 @@
 -- Backends that were just made, beside a store of dumps.
-use Rattle.std.proofs.Common.{◌≡◌, refl, sym, ap, subst, ◌∙◌, Bool, true, false, List, [], ℕ, All, Some, None, Option, map, replicate}
+use Rattle.std.proofs.Common.{◌≡◌, refl, sym, ap, subst, ◌∙◌, Bool, true, false, List, [], length, ℕ, All, Some, None, Option, map, replicate}
 use Rattle.std.specs.Prelude.{if◌then◌else◌}
+use Rattle.std.proofs.lemmas.List.{length-map, length-replicate}
 use Rattle.std.proofs.lemmas.List.Elements.{All-replicate}
 use Rattle.cj_model.specs.declared.database.Slot.{Slot}
 use Rattle.cj_mem.specs.MemoryBackends.{MemoryState, fresh_state, never_armed}
@@ -19,6 +20,10 @@ module _ {X : Type 0} (inner : X → MemoryState) (kept : Bool) (n : ℕ) (xs : 
   -- each is alike, in all that goes by the backend in it
   alike : {A : Type 0} (part : MemoryState → A) → map (λ (x : X). part (inner x)) xs ≡ replicate n (part fresh_state)
   alike part = of_wrapped inner part xs (replicate n fresh_state) new ∙ map_replicate part n fresh_state
+
+  -- there are so many
+  pub new_count : length xs ≡ n
+  new_count = sym (length-map xs inner) ∙ (ap length new ∙ length-replicate n fresh_state)
 
   -- they are seen as new
   pub new_seen : map (state_by {X = X} (λ x. told_beside kept (inner x).told) (λ x. 0) (λ x. (inner x).asks) (λ x. (inner x).login) (λ x. never_armed)) xs ≡ replicate n (new_backend kept)

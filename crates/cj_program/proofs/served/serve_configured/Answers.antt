@@ -1,14 +1,20 @@
 use Rattle.std.proofs.Common.{◌≡◌, ◌∙◌, refl, sym, ap, true, false, ◌&&◌, Bool, List, ℕ, length, map, replicate}
+use Rattle.cj_place.specs.Layouts.{Layout}
 use Rattle.cj_top.proofs.ArmedBackends.{by_kinds}
 use Rattle.cj_top.proofs.NewBackends.{any_are_new}
 use Rattle.cj_top.specs.Configured.{in_memory, new_backend, new_of}
 use Rattle.cj_top.specs.Logs.{Found}
 use Rattle.cj_program.specs.Served.{Counted}
 use Rattle.cj_program.proofs.Configured.{refuses_serving, runs_serve}
-use Rattle.cj_program.proofs.NewBackends.{new_begun_none, new_empty, new_seen}
+use Rattle.cj_program.proofs.NewBackends.{new_begun_none, new_count, new_empty, new_seen}
 use Rattle.cj_program.proofs.served.serve_configured.Goals as goal
 
 -- ---- backends in memory, beside the store of the dumps
+
+pub serve_over-requires-clause-as_many : goal.serve_over-requires-clause-as_many
+serve_over-requires-clause-as_many g c κs within =
+    new_count (λ b. b.inner) g.D.Store.tells c.count.result c.in-Ok.backends c.in-Ok.ensures
+    ∙ (c.count.ensures.count ∙ sym (ap (λ (l : Layout). length l.names) c.in-Ok-parts_of.ensures.placement))
 
 pub serve_over-requires-clause-empty : goal.serve_over-requires-clause-empty
 serve_over-requires-clause-empty g c κs within = λ told. new_empty (λ b. b.inner) g.D.Store.tells c.count.result c.in-Ok.backends c.in-Ok.ensures told
