@@ -58,8 +58,8 @@ struct Objects<R> {
     clock: Arc<SystemClock<R>, Global>,
 }
 
-/// Opens the configuration, the recovery log and the dumps, or returns `None` if memory runs out. Where the words are no
-/// command `run` uses none of them.
+/// Opens the files and makes the clock, or returns `None` if memory runs out. Where the words are no command `run` uses
+/// none of the files.
 fn open_objects<R: Files<File = File> + Copy>(
     alloc: Global,
     rt: R,
