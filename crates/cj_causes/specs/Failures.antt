@@ -52,7 +52,7 @@ pub record UnfinishedTurn (tells : Bool) (p : Placement) (s : ℕ) (a : SessionV
 abbrev pub FailedTurn : Bool → Placement → ℕ → SessionView → Call → SessionView → Type 0
 FailedTurn tells p s a c z = UnfinishedTurn tells p s a c z ⊎ (ReadFaultTurn p s a c z ⊎ LogFaultTurn p s a c z)
 
--- The reply is that of a turn which failed. The session made it between what it had seen at a and what it has seen at z.
+-- the reply is that of a turn which failed, and which the session made between what it had seen at a and at z
 pub record ToldByTurn (tells : Bool) (a z : DeskState) (reply : Reply) : Type 0 where
   pub before : SessionView
   pub call : Call
@@ -69,8 +69,8 @@ pub record ToldByTurn (tells : Bool) (a z : DeskState) (reply : Reply) : Type 0 
 abbrev pub log_failures : List Event → ℕ
 log_failures h = length (log_failure_sessions h)
 
--- From history F to history G a failure was noted for each time that the replies blame a backend, and one of the log's
--- store for each time that they blame that.
+-- From history F to history G a failure was noted for each time that the replies blame a backend, and one of the
+-- log's store for each time that they blame that.
 pub record CoverBlames (F G : List Event) (replies : List Reply) : Type 0 where
   pub backends : (b : ℕ) → failures_noted F b + count_by (blames_backend b) replies ≤ failures_noted G b
   pub log : log_failures F + count_by blames_log replies ≤ log_failures G

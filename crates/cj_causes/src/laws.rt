@@ -25,8 +25,8 @@ pub fn turns_fail_in_three_ways()
     ensures { (tells : Bool) (p : Placement) (s : ℕ) (a : SessionView) (c : Call) (z : SessionView) → Turn tells p s a c z → tells_of_failure c.reply ≡ true → FailedTurn tells p s a c z }
 {}
 
-/// Over a session at any desk each reply 40, 41 and 42 is that of a turn which failed. Failures of a backend were noted
-/// at least as often as the replies blame it, and so were those of the log's store.
+/// Over a session at any desk each reply 40, 41 and 42 is that of a turn which failed. Failures of a backend were
+/// noted at least as often as the replies blame it, and so were those of the log's store.
 pub fn sessions_are_told_of_failed_turns<R, K: Desk<R>, T>()
     ensures told { (drawn : T → ℕ → ℕ) (later : T → ℕ → T) (moment : Option ℤ) (a : ClientState K T) (taken written : List ℕ) (ending : SessionEnd) (desk : K) (draws : T) →
         (transcript : SessionTranscript (setting K.state_of K.leads_to drawn later moment) a taken written ending desk draws) →
@@ -36,9 +36,9 @@ pub fn sessions_are_told_of_failed_turns<R, K: Desk<R>, T>()
         CoverBlames (K.state_of a.desk).seen.front (K.state_of desk).seen.front transcript.replies }
 {}
 
-/// At each moment of a board a backend has counted a fault, since it took its seat, for each failure that any seat has
-/// seen noted, and as many as any fault note of it says. The log's store has counted one, since the opening, for each
-/// failure of it. A count at the largest `u64` ends that.
+/// At each moment of a board a backend has counted a fault, since it took its seat, for each failure that any seat
+/// has seen noted, and as many as any fault note of it says. The log's store has counted one, since the opening, for
+/// each failure of it. A count at the largest `u64` ends that.
 pub fn failures_have_faults<S: Store>()
     ensures backends { (n : ℕ) (s : State Event SeatView) → IsKeptBoard n s → (tells : Bool) (c : SeatedCell) → IsSeated tells c → IsViewAt s c.view → (v : SeatView) → IsViewAt s v → HaveBeenCounted (failures_noted v.front c.state.b) c.faults_before c.state.faults }
     ensures notes { (n : ℕ) (s : State Event SeatView) → IsKeptBoard n s → (tells : Bool) (c : SeatedCell) → IsSeated tells c → IsViewAt s c.view → (v : SeatView) → IsViewAt s v → (noted : ℕ) → Contains v.fault_notes (c.state.b, noted) → HaveBeenCounted noted c.faults_before c.state.faults }

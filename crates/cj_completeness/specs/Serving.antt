@@ -52,8 +52,8 @@ is_console_end_by_input ends.WriteFault = false
 is_console_end_by_input ends.Spent = true
 is_console_end_by_input ends.NoMemory = false
 
--- `serve` came to this status by a console that its input ended. As many connections came as the configuration asks for;
--- or memory ran out for one, which the status does not tell where so many bytes were taken.
+-- `serve` came to this status by a console that its input ended. As many connections came as the configuration asks
+-- for; or memory ran out for one, which the status does not tell where so many bytes were taken.
 pub record CompletesServing {D : Type 0} (s : Served D) (c : Conf) (found : List LogItem → Type 0) (dumps : D) (left left' held held' : Option (List ℕ)) (before now : Counted) (status : ℕ) : Type 0 where
   pub runs : RunsServe s c found dumps left left' held held' before now status
   pub by_input : is_console_end_by_input runs.ending ≡ true

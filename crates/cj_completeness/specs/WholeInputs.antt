@@ -11,7 +11,7 @@ use Rattle.cj_args.specs.declared.asked.Command.{Command}
 use Rattle.cj_args.specs.declared.asked.Command.TheVariants.{Pipe, Script, Log, Gen}
 use Rattle.cj_top.specs.Completeness.{AreLines, IsPlayable}
 
--- the bytes read as whole messages up to their end, or have a Quit; they are fewer than are taken of one input at most
+-- bytes that read as whole messages up to their end, or have a Quit, and no more than can be taken of one input
 pub record IsWholeSession (bytes : List ℕ) : Type 0 where
   pub short : length bytes < most
   pub messages : List Message
@@ -19,7 +19,7 @@ pub record IsWholeSession (bytes : List ℕ) : Type 0 where
   pub reading : Frames bytes messages rest
   pub whole : (list_any is_quit messages ≡ true) ⊎ (rest ≡ [])
 
--- the bytes are lines that can all be played; they are fewer than are taken of one input at most
+-- bytes that are lines which can all be played, and no more than can be taken of one input
 pub record IsWholeScript (names : List (List ℕ)) (bytes : List ℕ) : Type 0 where
   pub short : length bytes < most
   pub lines : List (List ℕ)

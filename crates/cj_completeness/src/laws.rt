@@ -39,9 +39,9 @@ use cj_desk::Desk;
 use cj_outside::{Sink, Source, Store};
 use cj_port::Port;
 
-/// A session at any desk, over which neither the source nor the sink counted a fault, was ended by its input and answered
-/// all of that, unless memory ran out. So each message before the first Quit has its reply, and the bytes fix the end.
-/// Counts at the largest `u64` are left out.
+/// A session at any desk, over which neither the source nor the sink counted a fault, was ended by its input and
+/// answered all of that, unless memory ran out. So each message before the first Quit has its reply, and the bytes
+/// fix the end. Counts at the largest `u64` are left out.
 pub fn sessions_answer_their_input<R, K: Desk<R>, I: Source, O: Sink, T>()
     ensures { (drawn : T → ℕ → ℕ) (later : T → ℕ → T) (moment : Option ℤ) (a : ClientState K T) (input input' : I) (output output' : O) (ending : SessionEnd) (desk : K) (draws : T) →
         (served : ServesSession (setting K.state_of K.leads_to drawn later moment) (I.left input) (I.left input') (O.held output) (O.held output') a ending desk draws) →
@@ -50,8 +50,8 @@ pub fn sessions_answer_their_input<R, K: Desk<R>, I: Source, O: Sink, T>()
         (is_end_by_input ending ≡ true) × AnswersInput served.transcript.replies (I.left input) (O.held output) (O.held output') ending }
 {}
 
-/// Whatever call of an administrator's says that a backend failed has a new fault note of it. Whatever says that the log's
-/// store failed has the event of that in what the pass has seen since.
+/// Whatever call of an administrator's says that a backend failed has a new fault note of it. Whatever says that the
+/// log's store failed has the event of that in what the pass has seen since.
 pub fn failures_show_to_administrators<D: Store>()
     ensures disable { (old new : SeatView) (b : ℕ) (error : AdminError) → DisablesSince old.front new.front b (Err error) → ShowsFailed old new (failed_by_admin error) }
     ensures checkpoint { (old new : SeatView) (name : List ℕ) (error : AdminError) → ChecksSince old.front new.front name (Err error) → ShowsFailed old new (failed_by_admin error) }
@@ -65,17 +65,18 @@ pub fn failures_show_to_administrators<D: Store>()
     ensures backup { (tells kept : Bool) (l : Layout) (b : ℕ) (name : List ℕ) (old new : SeatView) (shelf now : ShelfState D) (error : BackupError) → BacksUp tells kept l b name old new shelf now (Err error) → ShowsFailed old new (failed_by_backup error) }
 {}
 
-/// A command that came to the end of its input has status 0 if it could take all of that: whole messages or a Quit, or lines
-/// that can all be played, of fewer than 2^62 bytes. So where nothing failed `run` ends with 0 over such an input and a
-/// configuration that is accepted, unless memory ran out or the log was refused (`completeness_follows` of `cj_top`).
+/// A command that came to the end of its input has status 0 if it could take all of that: whole messages or a Quit,
+/// or lines that can all be played, of fewer than 2^62 bytes. So where nothing failed `run` ends with 0 over such an
+/// input and a configuration that is accepted, unless memory ran out or the log was refused (`completeness_follows`
+/// of `cj_top`).
 pub fn completed_commands_end_with_0()
     ensures { (command : Command) (left held held' : Option (List ℕ)) (status : ℕ) (c : Conf) → CompletesCommand command left held held' status c → TellsWholeInput command c.placement.names left → status ≡ 0 }
 {}
 
-/// What `run` says of words that ask to serve, in its clause `serves`, leaves nothing unanswered where no count of faults
-/// rose, the log's store keeps a history, the dumps' store keeps dumps, and the status is not 1. Then the configuration is
-/// refused, or its input ended the console, and as many connections came as were asked for. Counts at the largest `u64`
-/// are left out.
+/// What `run` says of words that ask to serve, in its clause `serves`, leaves nothing unanswered where no count of
+/// faults rose, the log's store keeps a history, the dumps' store keeps dumps, and the status is not 1. Then the
+/// configuration is refused, or its input ended the console, and as many connections came as were asked for. Counts
+/// at the largest `u64` are left out.
 pub fn serving_completes<F: Store, S: Store, D: Store, I: Source, O: Sink, E: Sink, R, P: Port<R>>()
     ensures { (conf conf' : F) (log : S) (dumps : D) (back : Option S) (dumps_back : Option D) (input input' : I) (output output' : O) (errors errors' : E) (port port' : P) (status : ℕ) →
         RunsCommand F.tells (F.held conf) (WritesRefusal (E.held errors) (E.held errors') (E.faults errors) (E.faults errors')) ((F.faults conf' ≡ F.faults conf) × (input' ≡ input) × (output' ≡ output) × (port' ≡ port) × (back ≡ Some log) × (dumps_back ≡ Some dumps)) (CountsFault (status ≡ 7) (F.faults conf) (F.faults conf') × (input' ≡ input) × (output' ≡ output) × (errors' ≡ errors) × (port' ≡ port) × (back ≡ Some log) × (dumps_back ≡ Some dumps))
