@@ -48,7 +48,7 @@ class Template:
 
     def bind(self, given: object) -> str:
         """The text with these parameters. Fails with ProgrammingError, DataError or NotSupportedError."""
-        parameters = parameters_of(given)
+        parameters = given if type(given) is tuple else parameters_of(given)
         if len(parameters) != self.count:
             raise ProgrammingError(f"{self.count} question marks, but {len(parameters)} parameters")
         if not parameters:
@@ -122,8 +122,7 @@ def many(text: str, sets: Iterable[object]) -> list[bytes]:
         return [statement_bytes(bind(given)) for given in sets]
     tail = _TAIL_END.sub("", text[insert.end():])
     bind = template_of(tail).bind
-    tuples = [encoded(bind(given)) for given in sets]
-    return _joined(encoded(insert.group()) + b" ", tuples, max(1, TUPLES_MOST // max(1, _tuples_in(tail))))
+    return _joined(insert.group() + " ", [bind(given) for given in sets], max(1, TUPLES_MOST // max(1, _tuples_in(tail))))
 
 
 def _tuples_in(tail: str) -> int:
@@ -138,19 +137,21 @@ def _tuples_in(tail: str) -> int:
     return found
 
 
-def _joined(head: bytes, tuples: list[bytes], most: int) -> list[bytes]:
+def _joined(head: str, tuples: list[str], most: int) -> list[bytes]:
     """INSERTs of the tuples, each with at most so many of them and within a frame."""
     statements: list[bytes] = []
-    batch: list[bytes] = []
-    size = len(head)
+    batch: list[str] = []
+    left = room = STATEMENT_MOST - len(encoded(head))
     for piece in tuples:
-        if batch and (len(batch) == most or size + len(piece) + 2 > STATEMENT_MOST):
-            statements.append(head + b", ".join(batch))
-            batch, size = [], len(head)
-        if len(head) + len(piece) > STATEMENT_MOST:
-            raise DataError(f"a tuple of {len(piece):,} bytes needs a statement longer than {STATEMENT_MOST:,}")
+        length = len(piece) if piece.isascii() else len(encoded(piece))
+        if length > room:
+            raise DataError(f"a tuple of {length:,} bytes needs a statement longer than {STATEMENT_MOST:,}")
+        # (two bytes are those of a comma and a blank)
+        if batch and (length > left or len(batch) == most):
+            statements.append(encoded(head + ", ".join(batch)))
+            batch, left = [], room
         batch.append(piece)
-        size += len(piece) + 2
+        left -= length + 2
     if batch:
-        statements.append(head + b", ".join(batch))
+        statements.append(encoded(head + ", ".join(batch)))
     return statements
