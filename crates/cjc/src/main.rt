@@ -134,7 +134,15 @@ fn main(rt: HostRuntime) -> ExitCode {
         Ok(words) => words,
         Err(error) => return refuse_words(error, &mut errors),
     };
-    let Some(mut objects) = open_objects(rt.alloc(), rt, &words) else {
+    let Some(
+        Objects {
+            mut conf,
+            log,
+            dumps,
+            clock,
+        },
+    ) = open_objects(rt.alloc(), rt, &words)
+    else {
         return ExitCode::from(1);
     };
     let mut input = Noted::new(rt.alloc(), StdSource::new(Patient::new(rt.reader(), rt)));
@@ -147,18 +155,18 @@ fn main(rt: HostRuntime) -> ExitCode {
         &rt,
         rt.alloc(),
         &words,
-        &mut objects.conf,
-        objects.log,
-        objects.dumps,
+        &mut conf,
+        log,
+        dumps,
         &mut input,
         &mut StdSink::new(Patient::new(rt.stdout(), rt)),
         &mut errors,
-        &objects.clock,
+        &clock,
         &mut port,
         &mut Spawner::new(rt.alloc(), CONNECTIONS),
     );
     let status = ended.status;
-    let traces = traces(&words, input.notes(), errors.notes(), &objects.conf, &ended);
-    explain(rt.alloc(), status, &traces, &mut objects.conf, &mut errors);
+    let traces = traces(&words, input.notes(), errors.notes(), &conf, &ended);
+    explain(rt.alloc(), status, &traces, &mut conf, &mut errors);
     ExitCode::from(status)
 }
