@@ -1,5 +1,6 @@
 -- Bytes that have no dump, for tests alone.
-use Rattle.std.proofs.Common.{◌≡◌, ◌≢◌, ◌<◌, ◌≤◌, ℕ, true, List, [], length, take, Result, Ok, Err, refl, sym, subst, inl}
+use Rattle.std.proofs.Common.{◌≡◌, ◌≢◌, ◌<◌, ◌≤◌, ℕ, true, List, [], length, take, Result, Ok, Err, refl, sym, subst, inl, arith}
+use Rattle.std.proofs.lemmas.List.Elements.{at_from_Contains}
 use Rattle.cj_records.proofs.OneList.{one_list}
 use Rattle.cj_cluster.specs.declared.event.Event.{Event}
 use Rattle.cj_dump.specs.declared.dump.Dump.{Dump}
@@ -14,8 +15,8 @@ new_has_none bytes kept few keeps = one_shelf bytes kept [] keeps (record { foun
 -- and so have those of another file
 pub other_has_none : (bytes : List ℕ) (kept : List Dump) → 5 < length bytes → take 4 bytes ≢ shelf_magic → KeepsDumps bytes kept → kept ≡ []
 other_has_none bytes kept many other keeps =
-    let both : Ok (dump_bodies kept) ≡ Err 0 = one_list shelf_magic bytes (Ok (dump_bodies kept)) (Err 0) refl keeps.found (many, inl (other, refl)) in absurd cc
+    let same = one_list shelf_magic bytes (Ok (dump_bodies kept)) (Err 0) refl keeps.found (many, inl (other, refl)) in absurd (cc same)
 
 -- of none each is right
 pub none_are_right : (opening : List Event) (kept : List Dump) → kept ≡ [] → AreRightDumps true opening kept
-none_are_right opening kept none = subst (AreRightDumps true opening) (sym none) (λ on d (index, there). absurd cc)
+none_are_right opening kept none = subst (AreRightDumps true opening) (sym none) (λ on d has. let at = at_from_Contains [] d has in omega (arith, at.1))
