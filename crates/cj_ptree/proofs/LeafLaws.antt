@@ -1,5 +1,6 @@
 -- Pairs of a leaf: a split, and values edited in turn.
 use Rattle.std.proofs.Common.{◌≡◌, ◌∙◌, ℕ, suc, ◌<◌, Bool, true, false, cond, List, [], ◌∷◌, ◌++◌, length, get_or, take, drop, map, refl, ap, sym, subst, arith, ⊎_elim, Ordering, Less, Equal}
+use Rattle.std.specs.BTreeMap.{insert_entry}
 use Rattle.std.specs.Cmp.{IsTotalOrder}
 use Rattle.std.specs.List.{AllByRecursion}
 use Rattle.std.specs.List.Retain.{RetainsInTurn}
@@ -9,10 +10,10 @@ use Rattle.std.specs.Ordering.{is_le}
 use Rattle.std.specs.Prelude.{filter}
 use Rattle.std.proofs.lemmas.Bool.{cases_Bool, cond-false, cond-true}
 use Rattle.std.proofs.lemmas.Cmp.{tied_itself}
-use Rattle.std.proofs.lemmas.List.{take-append-drop}
+use Rattle.std.proofs.lemmas.List.{drop_all, take-append-drop, take_all}
 use Rattle.cj_ptree.specs.Pairs as pair
 use Rattle.cj_ptree.specs.Pairs.{is_filled}
-use Rattle.cj_ptree.proofs.PlaceLaws.{drop_at_index, split_at}
+use Rattle.cj_ptree.proofs.PlaceLaws.{drop_at_index, insert_gap, split_at}
 use Rattle.cj_ptree.proofs.ZoneLaws.{from_above, rise_back, rise_below, rise_front}
 
 module _ {K V : Type 0} (R : K → K → Ordering) where
@@ -70,3 +71,26 @@ module _ {K V : Type 0} (R : K → K → Ordering) (o : IsTotalOrder R) where
         ap is_filled at,
         subst (λ (xs : List (K × V)). pair.PairsRise R xs) (sym at) high),
         rise_front R o (take i es) (get_or es i d ∷ drop (suc i) es) around)))
+
+  -- a pair behind all others
+  module _ (k : K) (v : V) (es : List (K × V)) (i : ℕ) (h : pair.IsGap R k es i) (z : i ≡ length es) where
+    pub append_gap : es ++ (k, v) ∷ [] ≡ insert_entry R es k v
+    append_gap =
+        sym (ap (λ (fs : List (K × V)). fs ++ (k, v) ∷ []) (take_all i es (omega arith)))
+        ∙ sym (ap (λ (fs : List (K × V)). take i es ++ (k, v) ∷ fs) (drop_all i es (omega arith)))
+        ∙ insert_gap R o k es i h v
+
+    below_all : pair.AreBelow R k es
+    below_all = subst (λ (fs : List (K × V)). pair.AreBelow R k fs) (take_all i es (omega arith)) h.below
+
+    filled_some : (xs : List (K × V)) → 0 < length xs → is_filled xs ≡ true
+    filled_some [] g = absurd (omega arith)
+    filled_some (x ∷ xs) g = refl
+
+    -- in a list of its own, whose bound is its key
+    pub append_split : (m : K) (fs : List (K × V)) → m ≡ k → fs ≡ (k, v) ∷ [] → 0 < i
+        → pair.AreBelow R m es × pair.AreFrom R m fs × (is_filled es ≡ true) × (is_filled fs ≡ true)
+    append_split m fs e f g =
+        subst (λ (x : K). pair.AreBelow R x es × pair.AreFrom R x fs × (is_filled es ≡ true) × (is_filled fs ≡ true)) (sym e)
+        (subst (λ (xs : List (K × V)). pair.AreBelow R k es × pair.AreFrom R k xs × (is_filled es ≡ true) × (is_filled xs ≡ true)) (sym f)
+        (below_all, (ap is_le (tied_itself o k), tt), filled_some es (omega arith), refl))
