@@ -20,6 +20,5 @@ mod shared;
 pub use ends::{Poster, Taker};
 pub use job::Job;
 pub use lane::Lane;
-pub use locked::{LockedPoster, LockedTaker};
 pub use numbered::Numbered;
 pub use shared::SharedLane;
