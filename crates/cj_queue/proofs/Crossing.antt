@@ -11,7 +11,7 @@ use Rattle.cj_queue.specs.contracts.locked.LockedTaker as locked_taker
 use Rattle.cj_queue.specs.contracts.shared.SharedLane as shared_lane
 
 lane_send : (T : RattleType) (n : numbered.Ghosts T.Denot) → IsSend T → IsSend (lane.the_field T n).row
-lane_send T n st = search (table.the_field_send, heap.crosses, heap.send, heap.sync, sendable) depth 60 fits 20000
+lane_send T n st = search (table.the_field_send, heap.crosses, heap.send, sendable) depth 60 fits 20000
 
 lane_sync : (T : RattleType) (n : numbered.Ghosts T.Denot) → IsSend T → IsSync (lane.the_field T n).row
 lane_sync T n st = search (table.the_field_sync, heap.crosses, heap.send, heap.sync, sendable) depth 60 fits 20000

@@ -13,8 +13,8 @@ push_as-requires-clause-rule g c =
       holds_last number p.pass.id v p.posts,
     )
 
-pub invariant_of-poster-in-Ok : goal.invariant_of-poster-in-Ok
-invariant_of-poster-in-Ok g c =
+pub invariant_of-poster : goal.invariant_of-poster-in-Ok
+invariant_of-poster g c =
     let number = g.T.Numbered.number_of in
     let p = c.args.poster.now in
     let v = view p.pass in
