@@ -1,5 +1,5 @@
 -- Each step keeps the rule of a lane's queue.
-use Rattle.std.proofs.Common.{◌≡◌, ◌≢◌, ℕ, ◌+◌, ◌<◌, ◌≤◌, zero, suc, Bool, true, false, true≢false, List, [], ◌∷◌, ◌++◌, length, set, slice_index_or, All, AllPairs, sym, refl, ap, ◌∙◌, subst, ⊎_elim, append_assoc, arith}
+use Rattle.std.proofs.Common.{◌≡◌, ◌≢◌, ℕ, ◌+◌, ◌<◌, ◌≤◌, zero, suc, true, false, true≢false, List, [], ◌∷◌, ◌++◌, length, set, slice_index_or, All, sym, refl, ap, ◌∙◌, subst, ⊎_elim, append_assoc, arith}
 use mathlib.Core.Option.{some, some-ne-none}
 use lib.ListN.{get_elem?}
 use Rattle.std.proofs.lemmas.List.{length-append}
@@ -29,7 +29,7 @@ module _ {T : Type 0} where
       let pair : number (slice_index_or (xs ++ x ∷ ys) k d) < number (slice_index_or (xs ++ x ∷ ys) (length xs) d) = rising k (length xs) d lt (omega (arith, long)) in
       subst (λ (z : T). number z < number x) (in_first xs (x ∷ ys) k d lt) (subst (λ (z : T). number (slice_index_or (xs ++ x ∷ ys) k d) < number z) (first_behind xs x ys d) pair)
 
-  pub rising_more : (number : T → ℕ) (xs : List T) (x : T) → IsRisingBy number xs → All (λ (j : T). number j < number x) xs → IsRisingBy number (xs ++ x ∷ [])
+  rising_more : (number : T → ℕ) (xs : List T) (x : T) → IsRisingBy number xs → All (λ (j : T). number j < number x) xs → IsRisingBy number (xs ++ x ∷ [])
   rising_more number xs x rising lower = all_pairs_push (λ (j k : T). number j < number k) xs x rising lower
 
   only : (P : T → Type 0) (x : T) → P x → All P (x ∷ [])
@@ -72,7 +72,7 @@ module _ {T : Type 0} (number : T → ℕ) where
     order = refl;
     rising = λ i j d lt within. absurd (omega (arith, within));
     fits = each_set (Fits 0 0 [] []) (lane_view true true [] [] ∷ []) 0 (lane_view true true [] []) ((λ _. (refl, refl)), λ _. (refl, refl))
-      (λ j u other e. absurd (other (new_is_last [] _ u j (λ x. some-ne-none u (sym x)) e)));
+        (λ j u other e. absurd (other (new_is_last [] _ u j (λ x. some-ne-none u (sym x)) e)));
   }
 
   pub posts : (n pass : ℕ) (v : LaneView T) (x : T) → v.posts ≡ true → All (λ (j : T). number j < number x) v.posted → Pushes (IsInOrder number) n pass v x (λ w. w ≡ lane_view v.posts v.takes (v.posted ++ x ∷ []) v.taken)
@@ -89,7 +89,7 @@ module _ {T : Type 0} (number : T → ℕ) where
           order = ap (λ (l : List T). l ++ x ∷ []) h.order ∙ append_assoc h.taken items (x ∷ []);
           rising = rising_more number h.posted x h.rising (subst (All (λ (j : T). number j < number x)) (mine.0 may).1 lower);
           fits = each_set (Fits h.poster h.taker all h.taken) views pass w ((λ _. ((mine.0 may).0, ap (λ (l : List T). l ++ x ∷ []) (mine.0 may).1)), mine.1)
-            (λ j u other e. ((λ p. absurd (other (((h.fits j u e).0 p).0 ∙ sym (mine.0 may).0))), (h.fits j u e).1));
+              (λ j u other e. ((λ p. absurd (other (((h.fits j u e).0 p).0 ∙ sym (mine.0 may).0))), (h.fits j u e).1));
         },
         refl,
       )
@@ -109,7 +109,7 @@ module _ {T : Type 0} (number : T → ℕ) where
           order = h.order ∙ sym (append_assoc h.taken (x ∷ []) items);
           rising = h.rising;
           fits = each_set (Fits h.poster h.taker h.posted all) views pass w (mine.0, λ _. ((mine.1 may).0, ap (λ (l : List T). l ++ x ∷ []) (mine.1 may).1))
-            (λ j u other e. ((h.fits j u e).0, λ p. absurd (other (((h.fits j u e).1 p).0 ∙ sym (mine.1 may).0))));
+              (λ j u other e. ((h.fits j u e).0, λ p. absurd (other (((h.fits j u e).1 p).0 ∙ sym (mine.1 may).0))));
         },
         (
           refl,
@@ -125,7 +125,7 @@ module _ {T : Type 0} (number : T → ℕ) where
       let vs : List (LaneView T) = set views pass l in
       let Old : ℕ → LaneView T → Type 0 = λ j u. (u.posts ≡ true → (j ≡ h.poster) × (u.posted ≡ h.posted)) × (u.takes ≢ true) in
       let old : EachPass Old vs =
-          each_set Old views pass l ((λ _. mine.0 a), λ p. true≢false (sym p)) (λ j u other e. ((h.fits j u e).0, λ p. other (((h.fits j u e).1 p).0 ∙ sym (mine.1 b).0))) in
+      each_set Old views pass l ((λ _. mine.0 a), λ p. true≢false (sym p)) (λ j u other e. ((h.fits j u e).0, λ p. other (((h.fits j u e).1 p).0 ∙ sym (mine.1 b).0))) in
       record {
         poster = h.poster;
         taker = length vs;
@@ -152,7 +152,7 @@ module _ {T : Type 0} (number : T → ℕ) where
       let theirs = (h.fits other u was).1 b in
       let Now : ℕ → LaneView T → Type 0 = λ j y. j ≢ other → Fits h.poster pass h.posted h.taken j y in
       let now : EachPass Now vs =
-          each_set Now views pass both (λ _. ((λ _. mine.0 a), λ _. (refl, theirs.1))) (λ j y _ e apart. ((h.fits j y e).0, λ p. absurd (apart (((h.fits j y e).1 p).0 ∙ sym theirs.0)))) in
+      each_set Now views pass both (λ _. ((λ _. mine.0 a), λ _. (refl, theirs.1))) (λ j y _ e apart. ((h.fits j y e).0, λ p. absurd (apart (((h.fits j y e).1 p).0 ∙ sym theirs.0)))) in
       record {
         poster = h.poster;
         taker = pass;
@@ -161,16 +161,12 @@ module _ {T : Type 0} (number : T → ℕ) where
         order = h.order;
         rising = h.rising;
         fits = each_set (Fits h.poster pass h.posted h.taken) vs other (lane_view false false [] []) ((λ p. absurd (true≢false (sym p))), λ p. absurd (true≢false (sym p)))
-          (λ j y apart e. now j y e apart);
+            (λ j y apart e. now j y e apart);
       }
 
   -- what the queue holds is the last that was posted
   pub holds_last : (pass : ℕ) (v : LaneView T) → v.posts ≡ true → Learns (IsInOrder number) pass v (λ items. (before : List T) × (v.posted ≡ before ++ items))
   holds_last pass v a items views h at = (h.taken, ((h.fits pass v at).0 a).1 ∙ h.order)
-
-  -- what was posted is what was taken and then what is left
-  pub compares : (pass : ℕ) (v : LaneView T) → v.posts ≡ true → v.takes ≡ true → Learns (IsInOrder number) pass v (λ items. v.posted ≡ v.taken ++ items)
-  compares pass v a b items views h at = let mine = h.fits pass v at in (mine.0 a).1 ∙ h.order ∙ ap (λ (l : List T). l ++ items) (sym (mine.1 b).1)
 
   -- the poster's end after it posted a job
   module _ (v w : LaneView T) (x : T) (last : ℕ) (is : w ≡ lane_view v.posts v.takes (v.posted ++ x ∷ []) v.taken) (within : All (λ (j : T). number j ≤ last) v.posted) (above : last < number x) where

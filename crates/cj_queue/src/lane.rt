@@ -20,10 +20,7 @@ pub struct Lane<T: Numbered + Drop> {
 
 impl<T: Numbered + Drop> Lane<T> {
     /// Makes a lane with room for so many jobs, and its two ends.
-    pub fn new(
-        alloc: Global,
-        capacity: usize,
-    ) -> Result<(Lane<T>, Poster<T>, Taker<T>), NoMemory>
+    pub fn new(alloc: Global, capacity: usize) -> Result<(Lane<T>, Poster<T>, Taker<T>), NoMemory>
         requires { 0 < capacity }
         ensures ends { IfOk result (λ lane. IsPosterOf lane.0 lane.1 × IsTakerOf lane.0 lane.2) }
         ensures empty { IfOk result (λ lane. (posted lane.1 ≡ []) × (lane.1.last ≡ 0) × (taken lane.2 ≡ [])) }
@@ -47,10 +44,7 @@ impl<T: Numbered + Drop> Lane<T> {
         ensures full { OnErr result (IsFull (capacity_of self.now) (posted poster.old)) }
     {
         let number = job.number();
-        match self
-            .queue
-            .push_as::<Posts<T>, R>(rt, &mut poster.pass, job)
-        {
+        match self.queue.push_as::<Posts<T>, R>(rt, &mut poster.pass, job) {
             Ok(()) => {
                 poster.last = number;
                 Ok(())
