@@ -7,7 +7,7 @@ use Rattle.cj_cluster.specs.History.Histories.{events_left, has_marker, is_enabl
 use Rattle.cj_place.specs.Layouts.{Layout}
 use Rattle.cj_board.specs.declared.view.SeatView.{SeatView}
 use Rattle.cj_dump.specs.declared.dump.Dump.{Dump}
-use Rattle.cj_shelf.specs.Shelves.{is_among, ShelfState}
+use Rattle.cj_shelf.specs.Shelves.{is_shelved, ShelfState}
 use Rattle.cj_locked_cell.specs.Asking.{NotesFault}
 use Rattle.cj_locks.specs.Dumping.{IsLastHostOf, IsTakenDump, MarksDump}
 use Rattle.cj_locks.specs.declared.restore.RestoreError.{RestoreError}
@@ -18,9 +18,9 @@ use Rattle.cj_backup.specs.declared.backing.BackupError.TheVariants as errors
 -- the dump of backend b that its marker names stands on the shelf behind the others, of which none had the name; or why
 -- not. The first reason that holds is given. Where nothing was added the shelf has the dumps that it had.
 abbrev pub BacksUp : {D : Type 0} → Bool → Bool → Layout → ℕ → List ℕ → SeatView → SeatView → ShelfState D → ShelfState D → Result ℕ BackupError → Type 0
-BacksUp tells kept l b name old new shelf now (Ok n) = (is_among name shelf.names ≡ false) × (marks : MarksDump l old.front new.front name b) × (d : Dump) × IsTakenDump tells l marks.m name b d × (n ≡ d.position) × (now.names ≡ shelf.names ++ name ∷ []) × (kept ≡ true → now.dumps ≡ shelf.dumps ++ d ∷ [])
+BacksUp tells kept l b name old new shelf now (Ok n) = (is_shelved name shelf.names ≡ false) × (marks : MarksDump l old.front new.front name b) × (d : Dump) × IsTakenDump tells l marks.m name b d × (n ≡ d.position) × (now.names ≡ shelf.names ++ name ∷ []) × (kept ≡ true → now.dumps ≡ shelf.dumps ++ d ∷ [])
 BacksUp tells kept l b name old new shelf now (Err errors.NotEnabled) = (is_enabled new.front b ≡ false) × (now ≡ shelf)
-BacksUp tells kept l b name old new shelf now (Err errors.NameTaken) = ((is_among name shelf.names ≡ true) ⊎ (has_marker new.front name ≡ true)) × (now ≡ shelf)
+BacksUp tells kept l b name old new shelf now (Err errors.NameTaken) = ((is_shelved name shelf.names ≡ true) ⊎ (has_marker new.front name ≡ true)) × (now ≡ shelf)
 BacksUp tells kept l b name old new shelf now (Err (errors.LastHost table)) = IsLastHostOf l new.front b table × (now ≡ shelf)
 BacksUp tells kept l b name old new shelf now (Err (errors.Failed k)) = (k ≡ b) × MarksDump l old.front new.front name b × NotesFault b old new × (now ≡ shelf)
 BacksUp tells kept l b name old new shelf now (Err errors.StoreFault) = MarksDump l old.front new.front name b × (now.names ≡ shelf.names) × (kept ≡ true → now.dumps ≡ shelf.dumps)

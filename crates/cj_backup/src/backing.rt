@@ -5,7 +5,7 @@ ghost use Rattle.cj_outside.specs.Causes.{CountsFault};
 ghost use Rattle.cj_cluster.specs.History.Legality.{IsLegal};
 ghost use Rattle.cj_board.specs.Seats.{front, pass_view};
 ghost use Rattle.cj_dump.specs.Dumps.{CanEncode};
-ghost use Rattle.cj_shelf.specs.Shelves.{is_among};
+ghost use Rattle.cj_shelf.specs.Shelves.{is_shelved};
 ghost use Rattle.cj_pass.specs.Passes.{HasNotedMore};
 ghost use Rattle.cj_backup.specs.Backups.{BacksUp, MayRefuseBackup, IsBackupErrorOf, Puts};
 
@@ -102,8 +102,8 @@ pub fn backup<J: Naming, B: Backend, S: Store + Drop, D: Store, R: Wait>(
     ensures backs_up { BacksUp B.tells D.tells J.layout b name.now (pass_view pass.old.seat) (pass_view pass.new.seat) shelf.old shelf.new result }
     ensures cause { CountsFault (IsErrOf result BackupError.StoreFault) (D.faults shelf.old.store) (D.faults shelf.new.store) }
     ensures more { HasNotedMore (pass_view pass.old.seat) (pass_view pass.new.seat) }
-    ensures legal { is_among name.now shelf.old.names ≡ false → IsLegal (front pass.new.seat) }
-    ensures taken { is_among name.now shelf.old.names ≡ true → pass_view pass.new.seat ≡ pass_view pass.old.seat }
+    ensures legal { is_shelved name.now shelf.old.names ≡ false → IsLegal (front pass.new.seat) }
+    ensures taken { is_shelved name.now shelf.old.names ≡ true → pass_view pass.new.seat ≡ pass_view pass.old.seat }
 {
     if shelf.has(name) {
         return Err(BackupError::NameTaken);

@@ -8,7 +8,7 @@ use Rattle.cj_outside.specs.Causes.{next}
 use Rattle.cj_place.specs.Layouts.{Layout, placement_of}
 use Rattle.cj_board.specs.declared.view.SeatView.{SeatView}
 use Rattle.cj_dump.specs.declared.dump.Dump.{Dump}
-use Rattle.cj_shelf.specs.Shelves.{GivesFirst, is_among, SameShelf, ShelfState}
+use Rattle.cj_shelf.specs.Shelves.{GivesFirst, is_shelved, SameShelf, ShelfState}
 use Rattle.cj_shelf.specs.declared.error.ShelfError.{ShelfError}
 use Rattle.cj_listing.specs.Listing.{listing}
 use Rattle.cj_locked.specs.Listing.{items_between}
@@ -82,7 +82,7 @@ record Finds {D : Type 0} (s : Served D) (name : List ℕ) (shelf now : ShelfSta
 
 -- the backend came back with the dump that the shelf has under this name, or without one; or why not
 abbrev pub ReenablesFrom : {D : Type 0} → Served D → ℕ → List ℕ → SeatView → SeatView → ShelfState D → ShelfState D → Answer → Type 0
-ReenablesFrom s b name old new shelf now NoDump = (is_among name shelf.names ≡ false) × (new ≡ old)
+ReenablesFrom s b name old new shelf now NoDump = (is_shelved name shelf.names ≡ false) × (new ≡ old)
 ReenablesFrom s b name old new shelf now StoreFault = (s.faults now.store ≡ next (s.faults shelf.store)) × (new ≡ old)
 ReenablesFrom s b name old new shelf now (BadRecord offset) = (s.kept ≡ false) × (new ≡ old)
 ReenablesFrom s b name old new shelf now NoMemory = new ≡ old

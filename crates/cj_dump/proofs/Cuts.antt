@@ -16,7 +16,7 @@ use Rattle.cj_model.specs.Cluster.Placements.{Hosting, hosts, part}
 use Rattle.cj_model.specs.Sql.Names.{is_name}
 use Rattle.cj_model.proofs.FilterLaws.{filter_after}
 use Rattle.cj_model.proofs.RisingLaws.{all_put_each}
-use Rattle.cj_place.specs.Layouts.{Layout, backend_number, covered, first_outside, is_outside, placement_of, row_hostings, tables_at}
+use Rattle.cj_place.specs.Layouts.{Layout, backend_number, covered, first_outside, is_outside, placement_of, row_hostings, hosted_tables}
 use Rattle.cj_place.proofs.Placing.{any_map}
 use Rattle.cj_dump.proofs.Common.{All, All-head, All-nil, All-tail, All-weaker, Dump, None, Slot, Some, flat_map, fold, name_cmp, put_by}
 use Rattle.cj_dump.specs.Coverage.{HasCoveredTables, covers_table, cut, lacks}
@@ -160,7 +160,7 @@ module _ (l : Layout) (b : ℕ) (within : b < length l.names) (d : Dump) (all : 
 
   covers_where_listed : l.full ≡ false → (table : List ℕ) → is_name table ≡ true → at table ≡ covers_table d table
   covers_where_listed part table name =
-      let names : List (List ℕ) = filter is_name (tables_at l b) in
+      let names : List (List ℕ) = filter is_name (hosted_tables l b) in
       let set : d.covers ≡ fold (put_by name_cmp) [] names = covers ∙ ap (λ (t : Bool). cond t [] (fold (put_by name_cmp) [] names)) part in
       let listed : Bool = list_any (is_listed l.names b table) (flat_map (row_hostings l.names) l.rows) in
       let there : at table ≡ true → list_any (λ t. bytes_eq t table) (fold (put_by name_cmp) [] names) ≡ true =
@@ -168,12 +168,12 @@ module _ (l : Layout) (b : ℕ) (within : b < length l.names) (d : Dump) (all : 
       let row_listed : listed ≡ true = ap (λ x. x || listed) (sym part) ∙ (and_parts (nat_lt b (length l.names)) (l.full || listed) hosted).1 in
       let itself : bytes_eq table table ≡ true = (bytes_eq-Decides table table).1 refl in
       let row = has_row l.names b table (λ n. at n && (is_name n && bytes_eq n table)) (and_from (at table) (is_name table && bytes_eq table table) hosted (and_from (is_name table) (bytes_eq table table) name itself)) l.rows row_listed in
-      any_put_each table [] names (any_filter is_name (λ t. bytes_eq t table) (tables_at l b) (any_filter at (λ n. is_name n && bytes_eq n table) (map (λ (r : PlaceRow). r.table) l.rows) row))
+      any_put_each table [] names (any_filter is_name (λ t. bytes_eq t table) (hosted_tables l b) (any_filter at (λ n. is_name n && bytes_eq n table) (map (λ (r : PlaceRow). r.table) l.rows) row))
       in
       let back : list_any (λ t. bytes_eq t table) (fold (put_by name_cmp) [] names) ≡ true → at table ≡ true =
       λ any.
       let tables : List (List ℕ) = map (λ (r : PlaceRow). r.table) l.rows in
-      let each = all_put_each name_cmp (λ n. at n ≡ true) [] names (All-nil (λ n. at n ≡ true)) (All-filter is_name (λ n. at n ≡ true) (tables_at l b) (filter_passes at tables)) in
+      let each = all_put_each name_cmp (λ n. at n ≡ true) [] names (All-nil (λ n. at n ≡ true)) (All-filter is_name (λ n. at n ≡ true) (hosted_tables l b) (filter_passes at tables)) in
       let one = Any-from_list_any (λ t. bytes_eq t table) (fold (put_by name_cmp) [] names) any in
       let hosted : at one.1 ≡ true = All-contains (λ n. at n ≡ true) (fold (put_by name_cmp) [] names) one.1 each (subst (Contains (fold (put_by name_cmp) [] names)) one.3 (Contains-get_or (fold (put_by name_cmp) [] names) one.0 one.1 one.2)) in
       ap at (sym ((bytes_eq-Decides one.1 table).0 one.4)) ∙ hosted

@@ -4,7 +4,7 @@ use Rattle.std.specs.Prelude.{codes}
 use Rattle.cj_place.proofs.Common.{None, PlaceRow, Some, hosts}
 use Rattle.cj_model.specs.declared.placement.Level.TheVariants.{Raidb0, Raidb1, Raidb2}
 use Rattle.cj_place.specs.declared.error.PlaceError.TheVariants.{BackendCount, Twice, Stranger, NoHost, ManyHosts, NotAll}
-use Rattle.cj_place.specs.Layouts.{layout_of, last_host, placement_of, tables_at}
+use Rattle.cj_place.specs.Layouts.{layout_of, last_host, placement_of, hosted_tables}
 use Rattle.cj_place.specs.Refusals.{refusal_of_placement}
 
 abbrev two : List (List ℕ)
@@ -41,7 +41,7 @@ fine : refusal_of_placement Raidb2 two (row (codes "u") (codes "b1" ∷ []) ∷ 
 fine = refl
 
 -- the first backend hosts t alone
-first : tables_at (layout_of Raidb2 two (row (codes "u") (codes "b1" ∷ []) ∷ row (codes "t") two ∷ [])) 0 ≡ codes "t" ∷ []
+first : hosted_tables (layout_of Raidb2 two (row (codes "u") (codes "b1" ∷ []) ∷ row (codes "t") two ∷ [])) 0 ≡ codes "t" ∷ []
 first = refl
 
 -- a table that no row names is on every backend where all are, and else on none

@@ -60,12 +60,12 @@ MakesLayout None layout (Err e) = e ≡ error.NoMemory
 -- ---- calls
 
 -- the tables of the rows that backend b hosts
-abbrev pub tables_at : Layout → ℕ → List (List ℕ)
-tables_at l b = filter (hosts (placement_of l) b) (map (λ (row : PlaceRow). row.table) l.rows)
+abbrev pub hosted_tables : Layout → ℕ → List (List ℕ)
+hosted_tables l b = filter (hosts (placement_of l) b) (map (λ (row : PlaceRow). row.table) l.rows)
 
 -- the tables that a dump of backend b covers: those that the placement names for it; none under full replication
 abbrev pub covered : Layout → ℕ → List (List ℕ)
-covered l b = if l.full then [] else fold (put_by name_cmp) [] (filter is_name (tables_at l b))
+covered l b = if l.full then [] else fold (put_by name_cmp) [] (filter is_name (hosted_tables l b))
 
 -- whether backend b is the only enabled host of the table
 abbrev pub is_last_host : Placement → ℕ → ℕ → List ℕ → Bool

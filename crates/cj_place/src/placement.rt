@@ -8,7 +8,7 @@ ghost use Rattle.cj_model.specs.Cluster.Placements.{hosts_all};
 ghost use Rattle.cj_model.specs.Database.Tables.{name_cmp, put_by};
 ghost use Rattle.cj_model.specs.Sql.Names.{is_name};
 ghost use Rattle.cj_place.specs.Layouts as layouts;
-ghost use Rattle.cj_place.specs.Layouts.{MakesLayout, is_full, layout_of, placement_of, tables_at};
+ghost use Rattle.cj_place.specs.Layouts.{MakesLayout, is_full, layout_of, placement_of, hosted_tables};
 ghost use Rattle.cj_place.specs.Refusals.{has_count, refusal_of_placement};
 
 use crate::error::PlaceError;
@@ -191,7 +191,7 @@ impl Placement {
     /// The tables of the rows that backend `b` hosts. Fails if memory runs out.
     pub fn hosted(&self, alloc: Global, b: u8) -> Result<TableSet, NoMemory>
         requires { b < length self.now.names }
-        ensures { IfOk result (λ set. set ≡ fold (put_by name_cmp) [] (tables_at self.now b)) }
+        ensures { IfOk result (λ set. set ≡ fold (put_by name_cmp) [] (hosted_tables self.now b)) }
     {
         self.hosted_of(alloc, b, self.rows.as_slice())
     }

@@ -12,7 +12,7 @@ use Rattle.cj_cluster.proofs.Pushed.{prefix_trans}
 use Rattle.cj_place.specs.Layouts.{Layout}
 use Rattle.cj_board.specs.declared.view.SeatView.{SeatView}
 use Rattle.cj_dump.specs.declared.dump.Dump.{Dump}
-use Rattle.cj_shelf.specs.Shelves.{first_of, is_among, KeepsDumps, ShelfState}
+use Rattle.cj_shelf.specs.Shelves.{first_of, is_shelved, KeepsDumps, ShelfState}
 use Rattle.cj_shelf.proofs.Bodies.{one_shelf}
 use Rattle.cj_locks.specs.Restoring.{IsRightDump}
 use Rattle.cj_replay.proofs.Restored.{right_later}
@@ -36,7 +36,7 @@ module _ (tells : Bool) where
   still_right F G dumps longer all = All-weaker (IsRightDump tells F) (IsRightDump tells G) (λ d is. right_later tells F G d longer is) dumps all
 
   -- a backend was backed up, or was not
-  module _ {D : Type 0} (l : Layout) (b : ℕ) (below : b < length l.names) (name : List ℕ) (old new : SeatView) (shelf now : ShelfState D) (legal : is_among name shelf.names ≡ false → IsLegal new.front) (all : All (IsRightDump tells new.front) shelf.dumps) where
+  module _ {D : Type 0} (l : Layout) (b : ℕ) (below : b < length l.names) (name : List ℕ) (old new : SeatView) (shelf now : ShelfState D) (legal : is_shelved name shelf.names ≡ false → IsLegal new.front) (all : All (IsRightDump tells new.front) shelf.dumps) where
     same_right : now ≡ shelf → All (IsRightDump tells new.front) now.dumps
     same_right same = subst (λ (x : ShelfState D). All (IsRightDump tells new.front) x.dumps) (sym same) all
 

@@ -12,7 +12,7 @@ use Rattle.cj_dump.specs.Layouts.{FieldReading}
 use Rattle.cj_dump.proofs.DumpLaws.{dump_law, dump_spelled}
 use Rattle.cj_dump.proofs.Dumped.{dump_fits}
 use Rattle.cj_dump.proofs.Decoded.{one_reading}
-use Rattle.cj_shelf.specs.Shelves.{shelf_magic, bodies_of, IsNoDump, BytesFixDumps}
+use Rattle.cj_shelf.specs.Shelves.{shelf_magic, dump_bodies, IsNoDump, BytesFixDumps}
 use Rattle.cj_shelf.specs.Proving.{refusal_at, FindsDump, read_dump, dumps_in, AreBodies}
 
 -- ---- one body
@@ -37,9 +37,9 @@ reads_back d is = dump_law.again d (start_of (dump_bytes d)) (record { rest = []
 
 -- ---- bodies in a list
 
-pub dumps_back : (dumps : List Dump) → AllByRecursion IsDump dumps → dumps_in (bodies_of dumps) ≡ dumps
+pub dumps_back : (dumps : List Dump) → AllByRecursion IsDump dumps → dumps_in (dump_bodies dumps) ≡ dumps
 dumps_back [] all = refl
-dumps_back (d ∷ dumps) all = ap (λ (r : FieldReading Dump). read_dump r ++ dumps_in (bodies_of dumps)) (reads_back d all.0) ∙ ap (λ (ds : List Dump). d ∷ ds) (dumps_back dumps all.1)
+dumps_back (d ∷ dumps) all = ap (λ (r : FieldReading Dump). read_dump r ++ dumps_in (dump_bodies dumps)) (reads_back d all.0) ∙ ap (λ (ds : List Dump). d ∷ ds) (dumps_back dumps all.1)
 
 pub dumps_are : (bodies : List (List ℕ)) (dumps : List Dump) → AreBodies bodies dumps → dumps_in bodies ≡ dumps
 dumps_are bodies dumps are = ap dumps_in are.same ∙ dumps_back dumps are.each
@@ -51,12 +51,12 @@ each_more (x ∷ dumps) d all is = (all.0, each_more dumps d all.1 is)
 -- one dump more
 pub bodies_more : (bodies : List (List ℕ)) (dumps : List Dump) (body : List ℕ) (d : Dump) → AreBodies bodies dumps → IsDump d → dump_bytes d ≡ body → AreBodies (bodies ++ body ∷ []) (dumps ++ d ∷ [])
 bodies_more bodies dumps body d are is its = record {
-  same = ap (λ (xs : List (List ℕ)). xs ++ body ∷ []) are.same ∙ ap (λ (b : List ℕ). bodies_of dumps ++ b ∷ []) (sym its) ∙ sym (map-append dump_bytes dumps (d ∷ []));
+  same = ap (λ (xs : List (List ℕ)). xs ++ body ∷ []) are.same ∙ ap (λ (b : List ℕ). dump_bodies dumps ++ b ∷ []) (sym its) ∙ sym (map-append dump_bytes dumps (d ∷ []));
   each = each_more dumps d are.each is;
 }
 
 -- the bytes are those of one list
 pub one_shelf : BytesFixDumps
 one_shelf bytes a b p q =
-    let same : bodies_of a ≡ bodies_of b = ok_is (bodies_of a) (bodies_of b) (one_list shelf_magic bytes (Ok (bodies_of a)) (Ok (bodies_of b)) refl p.found q.found) in
+    let same : dump_bodies a ≡ dump_bodies b = ok_is (dump_bodies a) (dump_bodies b) (one_list shelf_magic bytes (Ok (dump_bodies a)) (Ok (dump_bodies b)) refl p.found q.found) in
     sym (dumps_back a p.each) ∙ ap dumps_in same ∙ dumps_back b q.each

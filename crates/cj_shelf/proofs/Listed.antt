@@ -10,7 +10,7 @@ use Rattle.cj_shelf.proofs.Common.{Dump, IsDump, Label, RecordList, ShelfError, 
 use Rattle.cj_records.specs.RecordFiles.{record_bytes, front_bytes}
 use Rattle.cj_records.proofs.Reach.{length-record}
 use Rattle.cj_shelf.specs.declared.error.ShelfError.TheVariants as errors
-use Rattle.cj_shelf.specs.Shelves.{shelf_magic, names_of, IsNoDump, BadIn}
+use Rattle.cj_shelf.specs.Shelves.{shelf_magic, names_of, IsNoDump, BadDumpIn}
 use Rattle.cj_shelf.specs.Proving.{dumps_in, AreBodies, Labels, AgreesWithRecords, FindsDump, LabelsOf}
 use Rattle.cj_shelf.proofs.Bodies.{bodies_more, dumps_are}
 
@@ -39,7 +39,7 @@ there_more list n at end next body there sum all below read =
 -- ---- dumps of bodies
 
 -- a body that is no dump's
-pub bad_in : (list : List (List ℕ)) (n at : ℕ) (body : List ℕ) → AreBodies (take n list) (dumps_in (take n list)) → at ≡ length (front_bytes shelf_magic (take n list)) → slice_get list n ≡ Some body → IsNoDump body → BadIn list at
+pub bad_in : (list : List (List ℕ)) (n at : ℕ) (body : List ℕ) → AreBodies (take n list) (dumps_in (take n list)) → at ≡ length (front_bytes shelf_magic (take n list)) → slice_get list n ≡ Some body → IsNoDump body → BadDumpIn list at
 bad_in list n at body are there read bad = record {
   before = dumps_in (take n list);
   body = body;
@@ -73,7 +73,7 @@ labels_refused list n at body labels e (Err errors.Failed) l there read f is = t
 labels_refused list n at body labels e (Err errors.NoMemory) l there read f is = tt
 labels_refused list n at body labels e (Err (errors.BadRecord offset)) l there read f is =
     let bad = subst (λ (x : ShelfError). FindsDump body at (Err x)) (sym is) f in
-    subst (BadIn list) (sym bad.1) (bad_in list n at body l.dumps there read bad.0)
+    subst (BadDumpIn list) (sym bad.1) (bad_in list n at body l.dumps there read bad.0)
 
 pub dumps_more : (old new : List (List ℕ)) (body : List ℕ) (d : Dump) → AreBodies old (dumps_in old) → new ≡ old ++ body ∷ [] → IsDump d → body ≡ dump_bytes d → dumps_in new ≡ dumps_in old ++ d ∷ []
 dumps_more old new body d are more is its = ap dumps_in more ∙ dumps_are (old ++ body ∷ []) (dumps_in old ++ d ∷ []) (bodies_more old (dumps_in old) body d are is (sym its))

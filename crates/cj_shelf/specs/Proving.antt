@@ -16,7 +16,7 @@ use Rattle.cj_dump.specs.Layouts.{FieldReading}
 use Rattle.cj_shelf.specs.declared.error.ShelfError.{ShelfError}
 use Rattle.cj_shelf.specs.declared.error.ShelfError.TheVariants as errors
 use Rattle.cj_shelf.specs.declared.label.Label.{Label}
-use Rattle.cj_shelf.specs.Shelves.{shelf_magic, bodies_of, names_of, is_among, IsNoDump, BadIn}
+use Rattle.cj_shelf.specs.Shelves.{shelf_magic, dump_bodies, names_of, is_shelved, IsNoDump, BadDumpIn}
 
 -- the error of a shelf for an error of its records
 abbrev pub of_records : RecordsError → ShelfError
@@ -45,8 +45,8 @@ labelled labels = map (λ (label : Label). label.name) labels
 
 -- the index of the first of the names that is this one, or none if it is not among them
 abbrev pub IsFirstPlace : List ℕ → List (List ℕ) → Option ℕ → Type 0
-IsFirstPlace name names (Some place) = (slice_get names place ≡ Some name) × (is_among name (take place names) ≡ false)
-IsFirstPlace name names None = is_among name names ≡ false
+IsFirstPlace name names (Some place) = (slice_get names place ≡ Some name) × (is_shelved name (take place names) ≡ false)
+IsFirstPlace name names None = is_shelved name names ≡ false
 
 -- ---- dumps of bodies
 
@@ -62,7 +62,7 @@ dumps_in (body ∷ bodies) = read_dump (dump.reads (start_of body)) ++ dumps_in 
 
 -- these are the bodies of these dumps
 pub record AreBodies (bodies : List (List ℕ)) (dumps : List Dump) : Type 0 where
-  pub same : bodies ≡ bodies_of dumps
+  pub same : bodies ≡ dump_bodies dumps
   pub each : AllByRecursion IsDump dumps
 
 -- this is the body of a dump
@@ -93,6 +93,6 @@ FindsDump body at (Err errors.Failed) = ⊥
 -- the labels of the dumps of these bodies, or the first body that is no dump's
 abbrev pub LabelsOf : List (List ℕ) → Result (Vec Label) ShelfError → Type 0
 LabelsOf list (Ok labels) = Labels list labels.items
-LabelsOf list (Err (errors.BadRecord offset)) = BadIn list offset
+LabelsOf list (Err (errors.BadRecord offset)) = BadDumpIn list offset
 LabelsOf list (Err errors.Failed) = Unit {0}
 LabelsOf list (Err errors.NoMemory) = Unit {0}

@@ -28,12 +28,12 @@ abbrev pub shelf_magic : List ℕ
 shelf_magic = 67 ∷ 74 ∷ 68 ∷ 49 ∷ []
 
 -- the bodies of dumps
-abbrev pub bodies_of : List Dump → List (List ℕ)
-bodies_of dumps = map dump_bytes dumps
+abbrev pub dump_bodies : List Dump → List (List ℕ)
+dump_bodies dumps = map dump_bytes dumps
 
 -- the bytes of a shelf are a record file of the bodies of these dumps
 pub record KeepsDumps (bytes : List ℕ) (dumps : List Dump) : Type 0 where
-  pub found : Finds shelf_magic bytes (Ok (bodies_of dumps))
+  pub found : Finds shelf_magic bytes (Ok (dump_bodies dumps))
   pub each : AllByRecursion IsDump dumps
 
 -- the bytes have the dumps; while the gate after them is torn maybe one more, the one that was refused
@@ -45,18 +45,18 @@ abbrev pub IsNoDump : List ℕ → Type 0
 IsNoDump body = (d : Dump) → IsDump d → body ≢ dump_bytes d
 
 -- a body that is no dump's, after those of these dumps
-pub record BadIn (list : List (List ℕ)) (offset : ℕ) : Type 0 where
+pub record BadDumpIn (list : List (List ℕ)) (offset : ℕ) : Type 0 where
   pub before : List Dump
   pub body : List ℕ
   pub later : List (List ℕ)
-  pub parts : list ≡ bodies_of before ++ body ∷ later
+  pub parts : list ≡ dump_bodies before ++ body ∷ later
   pub each : AllByRecursion IsDump before
   pub bad : IsNoDump body
-  pub there : offset ≡ length (front_bytes shelf_magic (bodies_of before))
+  pub there : offset ≡ length (front_bytes shelf_magic (dump_bodies before))
 
 -- a record file, of which a body is no dump's
 abbrev pub HasBadBody : List ℕ → ℕ → Type 0
-HasBadBody bytes offset = (list : List (List ℕ)) × Finds shelf_magic bytes (Ok list) × BadIn list offset
+HasBadBody bytes offset = (list : List (List ℕ)) × Finds shelf_magic bytes (Ok list) × BadDumpIn list offset
 
 -- the bytes of a shelf fix its dumps
 abbrev pub BytesFixDumps : Type 0
@@ -108,8 +108,8 @@ abbrev pub names_of : List Dump → List (List ℕ)
 names_of dumps = map (λ (d : Dump). d.name) dumps
 
 -- whether the name is one of these
-abbrev pub is_among : List ℕ → List (List ℕ) → Bool
-is_among name names = list_any (λ other. bytes_eq other name) names
+abbrev pub is_shelved : List ℕ → List (List ℕ) → Bool
+is_shelved name names = list_any (λ other. bytes_eq other name) names
 
 -- the first of the dumps that have the name
 abbrev pub first_of : List ℕ → List Dump → Option Dump

@@ -1,7 +1,7 @@
 //! What is kept in memory of a dump.
 
 ghost use Rattle.std.specs.Prelude.{◌≡◌};
-ghost use Rattle.cj_shelf.specs.Shelves.{is_among};
+ghost use Rattle.cj_shelf.specs.Shelves.{is_shelved};
 ghost use Rattle.cj_shelf.specs.Proving.{labelled, IsFirstPlace};
 
 use cj_model::Name;
@@ -27,8 +27,8 @@ pub fn place_of(labels: &[Label], name: &Name) -> Option<usize>
 
 /// Whether a label has the name.
 #[tactic(auto, using(crate::proofs::Looked::place_tells))]
-pub fn is_among(labels: &[Label], name: &Name) -> bool
-    ensures { result ≡ is_among name.now (labelled labels.now) }
+pub fn is_shelved(labels: &[Label], name: &Name) -> bool
+    ensures { result ≡ is_shelved name.now (labelled labels.now) }
 {
     place_of(labels, name).is_some()
 }

@@ -6,11 +6,11 @@ ghost use Rattle.cj_outside.specs.Causes.{CountsFault};
 ghost use Rattle.cj_outside.specs.Stores.{Only, LeavesOnly, Stays, Steps};
 ghost use Rattle.cj_dump.specs.declared.dump.Dump.{Dump};
 ghost use Rattle.cj_dump.specs.Dumps.{CanEncode, IsDump};
-ghost use Rattle.cj_shelf.specs.Shelves.{Adds, KeepsAtLeast, KeepsDumps, SameShelf, GivesFirst, is_among, names_of};
+ghost use Rattle.cj_shelf.specs.Shelves.{Adds, KeepsAtLeast, KeepsDumps, SameShelf, GivesFirst, is_shelved, names_of};
 ghost use Rattle.cj_shelf.specs.Shelves as shelves;
 
 use crate::error::ShelfError;
-use crate::label::{Label, is_among, place_of};
+use crate::label::{Label, is_shelved, place_of};
 use crate::reading::{dump_of, read_labels};
 use cj_dump::{Dump, encode};
 use cj_model::Name;
@@ -112,9 +112,9 @@ impl<D: Store> Shelf<D> {
 
     /// Whether a dump has the name. The store is not asked.
     pub fn has(&self, name: &Name) -> bool
-        ensures { result ≡ is_among name.now self.now.names }
+        ensures { result ≡ is_shelved name.now self.now.names }
     {
-        is_among(&self.labels, name)
+        is_shelved(&self.labels, name)
     }
 
     /// Reads the first dump of this name from the store. `None` comes exactly if no dump has the
@@ -126,7 +126,7 @@ impl<D: Store> Shelf<D> {
     #[tactic(auto, using(crate::proofs::Looked::place_within, crate::proofs::Looked::place_tells))]
     pub fn find(&mut self, name: &Name) -> Result<Option<Dump>, ShelfError>
         ensures first { D.tells ≡ true → GivesFirst name.now self.old.dumps result }
-        ensures some { IfOk result (λ found. is_some found ≡ is_among name.now self.old.names) }
+        ensures some { IfOk result (λ found. is_some found ≡ is_shelved name.now self.old.names) }
         ensures named { IfOk result (λ found. IfSome found (λ d. (d.name ≡ name.now) × IsDump d)) }
         ensures same { SameShelf D.tells D.held self.old self.new }
         ensures cause { CountsFault (IsErrOf result ShelfError.Failed) (D.faults self.old.store) (D.faults self.new.store) }

@@ -22,7 +22,7 @@ pub use Rattle.cj_model.specs.Database.Tables.{name_cmp, put_by}
 pub use Rattle.cj_model.specs.declared.answer.Asked.TheVariants.{Rows}
 pub use Rattle.cj_model.specs.declared.cached.Cached.{Cached}
 pub use Rattle.cj_model.specs.declared.limits.TheConstants.{EVENT_LIMIT}
-pub use Rattle.cj_place.specs.Layouts.{tables_at}
+pub use Rattle.cj_place.specs.Layouts.{hosted_tables}
 pub use Rattle.cj_replica.specs.Cells.{CatchesUp, IsEntryAfter}
 pub use Rattle.cj_replica.specs.Seated.{view_after_entry, view_after_read}
 pub use Rattle.cj_state.proofs.Asking.{answers, errs, noted_core, noted_fault, noted_logins, noted_want, notes_cases, wanted}

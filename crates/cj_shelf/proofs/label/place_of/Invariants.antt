@@ -1,7 +1,7 @@
 use Rattle.std.proofs.Common.{◌≡◌, false, take}
-use Rattle.cj_shelf.specs.Shelves.{is_among}
+use Rattle.cj_shelf.specs.Shelves.{is_shelved}
 use Rattle.cj_shelf.specs.Proving.{labelled}
 use Rattle.cj_shelf.proofs.label.place_of.Given as goal
 
 abbrev pub invariant-loop-place : goal.invariant-loop-place
-invariant-loop-place l = is_among l.name (take l.place (labelled l.labels)) ≡ false
+invariant-loop-place l = is_shelved l.name (take l.place (labelled l.labels)) ≡ false

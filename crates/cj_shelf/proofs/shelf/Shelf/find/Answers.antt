@@ -1,6 +1,6 @@
 use Rattle.std.proofs.Common.{◌≡◌, ℕ, List, true, Some, Err, ◌∙◌, sym, ap, subst}
 use Rattle.cj_shelf.proofs.Common.{Label, bytes_eq, bytes_eq-Decides, dump_bytes}
-use Rattle.cj_shelf.specs.Shelves.{ShelfState, is_among, first_of, GivesFirst}
+use Rattle.cj_shelf.specs.Shelves.{ShelfState, is_shelved, first_of, GivesFirst}
 use Rattle.cj_shelf.specs.Proving.{labelled, IsFirstPlace, dumps_in, FindsDump}
 use Rattle.cj_shelf.proofs.Looked.{none_first, found, refused}
 use Rattle.cj_shelf.proofs.shelf.Shelf.find.Goals as goal
@@ -9,7 +9,7 @@ pub returns-in_default-clause-first : goal.returns-in_default-clause-first
 returns-in_default-clause-first g c = λ t.
     let name = c.args.name.now in
     let names = ap labelled c.deref.ensures.value ∙ (c.self.invariant.labels t).names in
-    sym (ap (λ (v : ShelfState g.row.D.Denot). first_of name v.dumps) (sym c.self.view_is) ∙ none_first name (dumps_in c.self.inside.records.list) (ap (is_among name) (sym names) ∙ c.in_default.ensures))
+    sym (ap (λ (v : ShelfState g.row.D.Denot). first_of name v.dumps) (sym c.self.view_is) ∙ none_first name (dumps_in c.self.inside.records.list) (ap (is_shelved name) (sym names) ∙ c.in_default.ensures))
 
 pub returns-in_err-d-clause-first : goal.returns-in_err-d-clause-first
 returns-in_err-d-clause-first g c = λ t.

@@ -1,5 +1,5 @@
 use Rattle.std.proofs.Common.{◌≡◌, Bool, true, cond, filter, fold, [], Some, ap, sym, ◌∙◌, subst}
-use Rattle.cj_state.proofs.Cited.{Dump, IsHeld, Layout, WorldState, core_of, dumps_push, is_name, kept_dumped, name_cmp, name_some, position_at, put_by, states_of, tables_at}
+use Rattle.cj_state.proofs.Cited.{Dump, IsHeld, Layout, WorldState, core_of, dumps_push, is_name, kept_dumped, name_cmp, name_some, position_at, put_by, states_of, hosted_tables}
 use Rattle.cj_state.proofs.state.State.keep_dump.Goals as goal
 
 pub add-requires : goal.add-requires
@@ -11,7 +11,7 @@ add-requires g c =
     record {
       name = λ is. name_some c.args.name.now c.requires.named (sym c.copy.ensures ∙ is);
       covers = c.in_ok-covers.ensures.names;
-      none = λ full. c.in_ok-covers.ensures.tables ∙ ap (λ (t : Bool). cond t [] (fold (put_by name_cmp) [] (filter is_name (tables_at layout c.args.b)))) (replicates full);
+      none = λ full. c.in_ok-covers.ensures.tables ∙ ap (λ (t : Bool). cond t [] (fold (put_by name_cmp) [] (filter is_name (hosted_tables layout c.args.b)))) (replicates full);
       db = c.requires.storable;
     }
 
