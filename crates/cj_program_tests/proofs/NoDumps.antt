@@ -1,9 +1,9 @@
 -- Bytes that have no dump, for tests alone.
-use Rattle.std.proofs.Common.{◌≡◌, ◌≢◌, ◌<◌, ◌≤◌, ℕ, List, [], length, take, Result, Ok, Err, refl, sym, subst, inl}
+use Rattle.std.proofs.Common.{◌≡◌, ◌≢◌, ◌<◌, ◌≤◌, ℕ, true, List, [], length, take, Result, Ok, Err, refl, sym, subst, inl}
 use Rattle.cj_records.proofs.OneList.{one_list}
 use Rattle.cj_cluster.specs.declared.event.Event.{Event}
 use Rattle.cj_dump.specs.declared.dump.Dump.{Dump}
-use Rattle.cj_shelf.specs.Shelves.{bodies_of, KeepsDumps, shelf_magic}
+use Rattle.cj_shelf.specs.Shelves.{dump_bodies, KeepsDumps, shelf_magic}
 use Rattle.cj_shelf.proofs.Bodies.{one_shelf}
 use Rattle.cj_console.specs.Answers.{AreRightDumps}
 
@@ -14,7 +14,7 @@ new_has_none bytes kept few keeps = one_shelf bytes kept [] keeps (record { foun
 -- and so have those of another file
 pub other_has_none : (bytes : List ℕ) (kept : List Dump) → 5 < length bytes → take 4 bytes ≢ shelf_magic → KeepsDumps bytes kept → kept ≡ []
 other_has_none bytes kept many other keeps =
-    let both : Ok (bodies_of kept) ≡ Err 0 = one_list shelf_magic bytes (Ok (bodies_of kept)) (Err 0) refl keeps.found (many, inl (other, refl)) in absurd cc
+    let both : Ok (dump_bodies kept) ≡ Err 0 = one_list shelf_magic bytes (Ok (dump_bodies kept)) (Err 0) refl keeps.found (many, inl (other, refl)) in absurd cc
 
 -- of none each is right
 pub none_are_right : (opening : List Event) (kept : List Dump) → kept ≡ [] → AreRightDumps true opening kept
