@@ -1,6 +1,6 @@
 //! What `run` is handed, and the call of it.
 
-ghost use Rattle.std.specs.Prelude.{◌≡◌, [], List};
+ghost use Rattle.std.specs.Prelude.{◌≡◌, [], List, IfOk};
 ghost use Rattle.cj_dump.specs.declared.dump.Dump.{Dump};
 ghost use Rattle.cj_shelf.specs.Shelves.{KeepsDumps};
 
@@ -34,7 +34,7 @@ pub enum Dumps {
 
 /// The bytes of a store of dumps.
 pub fn bytes_of(dumps: Dumps) -> &'static [u8]
-    ensures none { (kept : List Dump) → KeepsDumps result.now kept → kept ≡ [] }
+    ensures { (kept : List Dump) → KeepsDumps result.now kept → kept ≡ [] }
 {
     match dumps {
         Dumps::Empty => b"CJD1\x00",
@@ -80,6 +80,13 @@ fn words(alloc: Global) -> Result<Vec<String>, AllocError> {
     ]?)
 }
 
+/// A store of these bytes, whose call with this number fails, from 1.
+fn store(alloc: Global, bytes: &[u8], fails: u64) -> Result<MemStore, AllocError>
+    ensures { IfOk result (λ store. store.bytes ≡ bytes.now) }
+{
+    Ok(MemStore::new(bytes.to_vec(alloc)?, vec![in alloc; fails]?))
+}
+
 /// Runs `serve` over an empty log and these dumps, of whose calls the one with this number fails, in at most so many
 /// threads.
 pub fn serve<R: Threads + Wait + Copy + Drop + Send + Sync + 'static>(
@@ -92,9 +99,10 @@ pub fn serve<R: Threads + Wait + Copy + Drop + Send + Sync + 'static>(
     threads: usize,
 ) -> Result<Ended<MemStore, MemStore>, AllocError> {
     let words = words(alloc)?;
-    let mut conf = MemStore::new(CONF.as_bytes().to_vec(alloc)?, Vec::new(alloc));
-    let log = MemStore::new(LOG.to_vec(alloc)?, Vec::new(alloc));
-    let dumps = MemStore::new(bytes_of(dumps).to_vec(alloc)?, vec![in alloc; fails]?);
+    let mut conf = store(alloc, CONF.as_bytes(), 0)?;
+    let log = store(alloc, LOG, 0)?;
+    let bytes = bytes_of(dumps);
+    let dumps = store(alloc, bytes, fails)?;
     let clock = Arc::new(alloc, FixedClock::new(0))?;
     let mut spawner = Spawner::new(alloc, threads);
     Ok(run(
