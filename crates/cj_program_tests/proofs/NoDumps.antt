@@ -1,5 +1,5 @@
 -- Bytes that have no dump, for tests alone.
-use Rattle.std.proofs.Common.{◌≡◌, ◌≢◌, ◌<◌, ◌≤◌, ℕ, true, List, [], length, take, Result, Ok, Err, refl, sym, subst, inl, arith}
+use Rattle.std.proofs.Common.{◌≡◌, ◌≢◌, ◌<◌, ◌≤◌, ℕ, Contains, true, List, [], length, take, Result, Ok, Err, refl, sym, subst, inl, arith}
 use Rattle.std.proofs.lemmas.List.Elements.{at_from_Contains}
 use Rattle.cj_records.proofs.OneList.{one_list}
 use Rattle.cj_cluster.specs.declared.event.Event.{Event}
@@ -17,6 +17,10 @@ pub other_has_none : (bytes : List ℕ) (kept : List Dump) → 5 < length bytes 
 other_has_none bytes kept many other keeps =
     let same = one_list shelf_magic bytes (Ok (dump_bodies kept)) (Err 0) refl keeps.found (many, inl (other, refl)) in absurd (cc same)
 
+-- none is among none
+none_among : (d : Dump) → Contains [] d → ⊥
+none_among d there = let at = at_from_Contains [] d there in omega (arith, at.1)
+
 -- of none each is right
 pub none_are_right : (opening : List Event) (kept : List Dump) → kept ≡ [] → AreRightDumps true opening kept
-none_are_right opening kept none = subst (AreRightDumps true opening) (sym none) (λ on d has. let at = at_from_Contains [] d has in omega (arith, at.1))
+none_are_right opening kept none = subst (AreRightDumps true opening) (sym none) (λ on d there. absurd (none_among d there))
