@@ -4,6 +4,7 @@ from __future__ import annotations
 import re
 from collections.abc import Iterable, Sequence
 from functools import lru_cache
+from itertools import chain
 
 from .errors import DataError, ProgrammingError
 from .literals import HIGHEST, LOWEST, encoded, literal
@@ -11,6 +12,8 @@ from .wire import STATEMENT_MOST
 
 # The most tuples of an INSERT.
 TUPLES_MOST = 4_096
+# What stands between the tuples of an INSERT.
+SEPARATOR = ", "
 # The longest text whose template is kept, in characters.
 _KEPT_MOST = 1_024
 
@@ -53,9 +56,25 @@ class Template:
             raise ProgrammingError(f"{self.count} question marks, but {len(parameters)} parameters")
         if not parameters:
             return self._form
-        # (most values are ints of 64 bits, which are written as they are, without a call for each)
-        return self._form % tuple([
-            value if type(value) is int and LOWEST <= value <= HIGHEST else literal(value) for value in parameters])
+        return self._form % _literals(parameters)
+
+    def bind_each(self, sets: Sequence[object]) -> str:
+        """The text once with each of these sets of parameters, of which there is one, and commas between. Fails as `bind` does.
+
+        All literals are put in at once, which takes a third of the time that a call of `bind` for each set takes.
+        """
+        rows = [given if type(given) is tuple else parameters_of(given) for given in sets]
+        for count in set(map(len, rows)) - {self.count}:
+            raise ProgrammingError(f"{self.count} question marks, but {count} parameters")
+        forms = SEPARATOR.join([self._form] * len(rows))
+        return forms % _literals(chain.from_iterable(rows)) if self.count else forms
+
+
+def _literals(values: Iterable[object]) -> tuple[object, ...]:
+    """What `%` puts in as the literals of these values."""
+    # (most values are ints of 64 bits, which are written as they are, without a call for each)
+    return tuple([
+        value if type(value) is int and LOWEST <= value <= HIGHEST else literal(value) for value in values])
 
 
 def template_of(text: str) -> Template:
@@ -121,8 +140,8 @@ def many(text: str, sets: Iterable[object]) -> list[bytes]:
         bind = template_of(text).bind
         return [statement_bytes(bind(given)) for given in sets]
     tail = _TAIL_END.sub("", text[insert.end():])
-    bind = template_of(tail).bind
-    return _joined(insert.group() + " ", [bind(given) for given in sets], max(1, TUPLES_MOST // max(1, _tuples_in(tail))))
+    most = max(1, TUPLES_MOST // max(1, _tuples_in(tail)))
+    return _inserts(insert.group() + " ", template_of(tail), list(sets), most)
 
 
 def _tuples_in(tail: str) -> int:
@@ -137,8 +156,19 @@ def _tuples_in(tail: str) -> int:
     return found
 
 
-def _joined(head: str, tuples: list[str], most: int) -> list[bytes]:
-    """INSERTs of the tuples, each with at most so many of them and within a frame."""
+def _inserts(head: str, tuples: Template, sets: list[object], most: int) -> list[bytes]:
+    """INSERTs of the tuples with each of these sets of parameters, of at most so many sets and within a frame."""
+    statements: list[bytes] = []
+    for at in range(0, len(sets), most):
+        statement = encoded(head + tuples.bind_each(sets[at:at + most]))
+        if len(statement) > STATEMENT_MOST:
+            return statements + _filled(head, [tuples.bind(given) for given in sets[at:]], most)
+        statements.append(statement)
+    return statements
+
+
+def _filled(head: str, tuples: list[str], most: int) -> list[bytes]:
+    """INSERTs of the tuples, each of as many as a frame holds, and at most so many."""
     statements: list[bytes] = []
     batch: list[str] = []
     left = room = STATEMENT_MOST - len(encoded(head))
@@ -146,12 +176,11 @@ def _joined(head: str, tuples: list[str], most: int) -> list[bytes]:
         length = len(piece) if piece.isascii() else len(encoded(piece))
         if length > room:
             raise DataError(f"a tuple of {length:,} bytes needs a statement longer than {STATEMENT_MOST:,}")
-        # (two bytes are those of a comma and a blank)
         if batch and (length > left or len(batch) == most):
-            statements.append(encoded(head + ", ".join(batch)))
+            statements.append(encoded(head + SEPARATOR.join(batch)))
             batch, left = [], room
         batch.append(piece)
-        left -= length + 2
+        left -= length + len(SEPARATOR)
     if batch:
-        statements.append(encoded(head + ", ".join(batch)))
+        statements.append(encoded(head + SEPARATOR.join(batch)))
     return statements
