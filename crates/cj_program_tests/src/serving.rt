@@ -31,15 +31,16 @@ fn each_connection_is_served(rt: HostRuntime) -> Result<(), Fail> {
     Ok(())
 }
 
-/// Which call fails of the port, of the input and of the output, 0 for none, what the clients hear, and the status.
+/// Which call fails of the port, of the input and of the output, 0 for none; what the clients hear, what the console
+/// writes, and the status. A port that fails leaves the console, and comes before what ended it.
 #[test]
 fn a_fault_is_the_status(rt: HostRuntime) -> Result<(), Fail> {
     let alloc = rt.alloc();
-    for (accept, take, put, heard, status) in [
-        (1, 0, 0, b"".as_slice(), 9),
-        (1, 1, 0, b"".as_slice(), 9),
-        (0, 1, 0, REPLIES, 5),
-        (0, 0, 1, REPLIES, 6),
+    for (accept, take, put, heard, written, status) in [
+        (1, 0, 0, b"".as_slice(), b"ok\n".as_slice(), 9),
+        (1, 1, 0, b"".as_slice(), b"".as_slice(), 9),
+        (0, 1, 0, REPLIES, b"".as_slice(), 5),
+        (0, 0, 1, REPLIES, b"".as_slice(), 6),
     ] {
         let clients = Clients::new(alloc)?;
         let mut port = clients.port(alloc, accept)?;
@@ -47,6 +48,7 @@ fn a_fault_is_the_status(rt: HostRuntime) -> Result<(), Fail> {
         let ended = serve(&rt, alloc, Dumps::Empty, 0, &mut streams, &mut port, 0)?;
         assert_eq!(rt; ended.status, status);
         assert!(rt; clients.have_heard(&rt, heard), "status {status}");
+        assert!(rt; streams.output() == written, "status {status}");
         assert!(rt; streams.errors().is_empty(), "status {status}");
     }
     Ok(())
