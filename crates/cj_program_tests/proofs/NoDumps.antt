@@ -9,12 +9,12 @@ use Rattle.cj_shelf.proofs.Bodies.{one_shelf}
 use Rattle.cj_console.specs.Answers.{AreRightDumps}
 
 -- those of a new shelf have none
-pub new_has_none : (bytes : List ℕ) (kept : List Dump) → length bytes ≤ 5 → KeepsDumps bytes kept → kept ≡ []
-new_has_none bytes kept few keeps = one_shelf bytes kept [] keeps (record { found = inl (few, refl); each = tt })
+pub new_has_none : (bytes : List ℕ) → length bytes ≤ 5 → (kept : List Dump) → KeepsDumps bytes kept → kept ≡ []
+new_has_none bytes few kept keeps = one_shelf bytes kept [] keeps (record { found = inl (few, refl); each = tt })
 
 -- and so have those of another file
-pub other_has_none : (bytes : List ℕ) (kept : List Dump) → 5 < length bytes → take 4 bytes ≢ shelf_magic → KeepsDumps bytes kept → kept ≡ []
-other_has_none bytes kept many other keeps =
+pub other_has_none : (bytes : List ℕ) → 5 < length bytes → take 4 bytes ≢ shelf_magic → (kept : List Dump) → KeepsDumps bytes kept → kept ≡ []
+other_has_none bytes many other kept keeps =
     let same = one_list shelf_magic bytes (Ok (dump_bodies kept)) (Err 0) refl keeps.found (many, inl (other, refl)) in absurd (cc same)
 
 -- none is among none
