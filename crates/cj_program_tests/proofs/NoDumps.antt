@@ -1,5 +1,5 @@
 -- Bytes that have no dump, for tests alone.
-use Rattle.std.proofs.Common.{◌≡◌, ◌≢◌, ◌<◌, ◌≤◌, ℕ, Contains, true, List, [], length, take, Result, Ok, Err, refl, sym, subst, inl, arith}
+use Rattle.std.proofs.Common.{◌≡◌, ◌≢◌, ◌<◌, ◌≤◌, ℕ, Contains, true, List, [], length, take, Ok, Err, refl, sym, subst, inl, arith}
 use Rattle.std.proofs.lemmas.List.Elements.{at_from_Contains}
 use Rattle.cj_records.proofs.OneList.{one_list}
 use Rattle.cj_cluster.specs.declared.event.Event.{Event}

@@ -5,7 +5,8 @@ use crate::handed::{Dumps, LOG, Streams, bytes_of, serve};
 use std::process::Abort;
 use std::test::Fail;
 
-/// A store that fails at its first call gives 7, and one with bytes that are no dumps' 8, of which the errors are told.
+/// A store that fails at its first call gives 7. One with bytes that are no dumps' gives 8, of which the errors are
+/// told.
 #[test]
 fn dumps_that_are_refused_stay(rt: HostRuntime) -> Result<(), Fail> {
     let alloc = rt.alloc();
