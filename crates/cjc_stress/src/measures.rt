@@ -1,6 +1,6 @@
 //! Measures: sessions that look rows of one table up by their keys, or change them, and how long they take.
 
-ghost use Rattle.std.specs.Prelude.{◌≡◌, ◌≤◌, ◌^◌, true};
+ghost use Rattle.std.specs.Prelude.{◌≡◌, ◌≤◌, ◌^◌, true, []};
 ghost use Rattle.cj_cluster.specs.History.Histories.{is_free};
 ghost use Rattle.cj_desk.specs.DeskStates.{desk_tx};
 
@@ -167,6 +167,7 @@ pub fn serve_alone<B: Backend + Drop, S: Store + Drop, R: Clock>(
     measure: Measure,
     began: Instant,
 ) -> Option<Lines>
+    requires fresh { world.core.sessions ≡ [] }
     requires idle { is_free world.core.history ≡ true }
 {
     let mut sent = rows(alloc).ok()?;
