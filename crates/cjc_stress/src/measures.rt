@@ -159,6 +159,33 @@ pub fn serve_measured<J: Naming, B: Backend, S: Store + Drop, R: Wait + Clock>(
     }
 }
 
+/// The frames of a session that makes the table, and then has the requests of a measure.
+fn frames_alone(alloc: Global, measure: Measure) -> Result<Vec<u8>, NoMemory> {
+    let Measure { kind, requests, .. } = measure;
+    let mut frames = rows(alloc)?;
+    append_requests(alloc, &mut frames, &mut PcgDraw::new(1), kind, requests)?;
+    Ok(frames)
+}
+
+/// Opens a session at a cluster that it has for itself, serves it, and tells it.
+fn serve_at<B: Backend + Drop, S: Store + Drop, R: Clock>(
+    rt: &R,
+    alloc: Global,
+    began: Instant,
+    world: World<B, S>,
+    sent: Vec<u8>,
+    lines: &mut Lines,
+) -> Option<()>
+    requires fresh { world.core.sessions ≡ [] }
+    requires idle { is_free world.core.history ≡ true }
+{
+    world.legal();
+    match world.desk() {
+        Ok(mut desk) => serve_timed(rt, alloc, began, &mut desk, sent, lines, "session"),
+        Err(_) => None,
+    }
+}
+
 /// Serves one session that has a cluster for itself: it makes the table, and then has its requests. Tells that session.
 pub fn serve_alone<B: Backend + Drop, S: Store + Drop, R: Clock>(
     rt: &R,
@@ -170,14 +197,8 @@ pub fn serve_alone<B: Backend + Drop, S: Store + Drop, R: Clock>(
     requires fresh { world.core.sessions ≡ [] }
     requires idle { is_free world.core.history ≡ true }
 {
-    let mut sent = rows(alloc).ok()?;
-    let mut draw = PcgDraw::new(1);
-    append_requests(alloc, &mut sent, &mut draw, measure.kind, measure.requests).ok()?;
-    world.legal();
-    let Ok(mut desk) = world.desk() else {
-        return None;
-    };
     let mut lines = Lines::new(alloc);
-    serve_timed(rt, alloc, began, &mut desk, sent, &mut lines, "session")?;
+    let sent = frames_alone(alloc, measure).ok()?;
+    serve_at(rt, alloc, began, world, sent, &mut lines)?;
     Some(lines)
 }
