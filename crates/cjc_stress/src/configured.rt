@@ -7,7 +7,7 @@ ghost use Rattle.cj_flaky.specs.FlakyBackends.{fresh_over};
 ghost use Rattle.cj_mem.specs.MemoryBackends.{fresh_state};
 
 use crate::gate::Slow;
-use crate::tasks::{Placed, Plan, Wrong};
+use crate::tasks::{Placed, Task, Wrong};
 use cj_balance::Balancer;
 use cj_book::BookParts;
 use cj_cache::Cache;
@@ -63,6 +63,27 @@ fn conf_of(alloc: Global, text: &[u8]) -> Option<Conf>
     }
 }
 
+/// The configuration of a cluster that is measured, with a result cache that keeps so many answers.
+fn measured(alloc: Global, cache: u64) -> Result<String, NoMemory> {
+    Ok(format!(in alloc;
+        "level = \"raidb1\"
+cache = {cache}
+backends = [{{ name = \"b0\", kind = \"memory\" }}, {{ name = \"b1\", kind = \"memory\" }}]
+users = [{{ name = \"ann\", sha256 = \"2bb80d537b1da3e38bd30361aa855686bde0eacd7162fef6a25fe97bf527a25b\", logins = [\"l0\", \"l1\"] }}]
+"
+    )?)
+}
+
+/// The configuration of the cluster of a task. None if memory is wanting, or the cache is too large.
+fn conf_of_task(alloc: Global, task: Task) -> Option<Conf>
+    ensures { IfSome result IsUsable }
+{
+    match task {
+        Task::Stress(plan) => conf_of(alloc, tried(plan.placed)),
+        Task::Bench(measure) => conf_of(alloc, measured(alloc, measure.cache).ok()?.as_bytes()),
+    }
+}
+
 /// Makes of a configuration what a world is made of beside its backends.
 pub fn parts_of(alloc: Global, conf: Conf) -> Result<Parts, NoMemory>
     requires { IsUsable conf }
@@ -112,22 +133,26 @@ fn drawn_fails(alloc: Global, draw: &mut PcgDraw, calls: u64) -> Result<ListOf<u
 }
 
 /// Makes the gate of backend `b`.
-fn slow<R: Clock + Copy>(clock: R, plan: Plan, b: u8) -> Slow<R> {
-    let lags = plan.wrong == Wrong::Client && b == 1;
-    Slow::new(clock, if lags { LAG } else { 0 }, WRITE)
+fn slow<R: Clock + Copy>(clock: R, task: Task, b: u8) -> Slow<R> {
+    match task {
+        Task::Stress(plan) if plan.wrong == Wrong::Client && b == 1 => Slow::new(clock, LAG, WRITE),
+        Task::Stress(_) => Slow::new(clock, 0, WRITE),
+        Task::Bench(_) => Slow::new(clock, 0, 0),
+    }
 }
 
 /// Draws the numbers of the calls of backend `b` that fail. There are none where nothing is to fail, and of the first one.
 fn listed_fails(
     alloc: Global,
     draw: &mut PcgDraw,
-    plan: Plan,
+    task: Task,
     b: u8,
 ) -> Result<ListOf<u64>, NoMemory> {
-    if plan.wrong == Wrong::Backends && b > 0 {
-        drawn_fails(alloc, draw, tried_calls(b))
-    } else {
-        Ok(ListOf::new(alloc))
+    match task {
+        Task::Stress(plan) if plan.wrong == Wrong::Backends && b > 0 => {
+            drawn_fails(alloc, draw, tried_calls(b))
+        }
+        _ => Ok(ListOf::new(alloc)),
     }
 }
 
@@ -136,14 +161,14 @@ fn tried_backend<R: Clock + Copy>(
     clock: R,
     alloc: Global,
     draw: &mut PcgDraw,
-    plan: Plan,
+    task: Task,
     b: u8,
 ) -> Result<Tried<R>, NoMemory>
     ensures { IfOk result (λ made. made.inner ≡ fresh_over fresh_state made.inner.fails) }
 {
-    let listed = listed_fails(alloc, draw, plan, b)?;
+    let listed = listed_fails(alloc, draw, task, b)?;
     let flaky = Flaky::new(MemBackend::new(alloc), listed);
-    Ok(Gated::new(flaky, slow(clock, plan, b)))
+    Ok(Gated::new(flaky, slow(clock, task, b)))
 }
 
 /// Makes so many empty backends.
@@ -151,31 +176,31 @@ fn tried_backends<R: Clock + Copy>(
     clock: R,
     alloc: Global,
     count: u8,
-    plan: Plan,
+    task: Task,
 ) -> Result<Backends<Tried<R>>, NoMemory>
     ensures count { IfOk result (λ backends. length backends ≡ count) }
     ensures fresh { IfOk result (All (λ b. b.inner ≡ fresh_over fresh_state b.inner.fails)) }
 {
-    let mut draw = PcgDraw::new(plan.seed.wrapping_add(plan.start));
+    let mut draw = PcgDraw::new(task.seed());
     let mut backends = Backends::new(alloc);
     for b in 0..count {
-        backends.push(tried_backend(clock, alloc, &mut draw, plan, b)?)?;
+        backends.push(tried_backend(clock, alloc, &mut draw, task, b)?)?;
     }
     Ok(backends)
 }
 
-/// Makes the configuration of a cluster that is tried, and its backends. None if memory is wanting.
+/// Makes the configuration of the cluster of a task, and its backends. None if memory is wanting.
 pub fn setting<R: Clock + Copy>(
     clock: R,
     alloc: Global,
-    plan: Plan,
+    task: Task,
 ) -> Option<(Conf, Backends<Tried<R>>)>
     ensures usable { IfSome result (λ made. IsUsable made.0) }
     ensures count { IfSome result (λ made. length made.1 ≡ length made.0.placement.names) }
     ensures fresh { IfSome result (λ made. All (λ b. b.inner ≡ fresh_over fresh_state b.inner.fails) made.1) }
 {
-    let conf = conf_of(alloc, tried(plan.placed))?;
-    match tried_backends(clock, alloc, conf.placement.count(), plan) {
+    let conf = conf_of_task(alloc, task)?;
+    match tried_backends(clock, alloc, conf.placement.count(), task) {
         Ok(backends) => Some((conf, backends)),
         Err(_) => None,
     }

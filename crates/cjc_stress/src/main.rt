@@ -1,12 +1,12 @@
-//! A program that tries a cluster that threads share. `checks/stress` runs it.
+//! A program that tries a cluster that threads share, and measures one. `checks/stress` and `bench/control` run it.
 //!
 //! `stress` starts a cluster over the recovery log that lies in its folder. It serves sessions with random statements in
 //! threads of their own, while an administrator ends orphans, sets checkpoints, audits and disables a backend. It writes
 //! what each session sent and was sent: whoever reads that and the log can tell whether each reply is one database's.
-//! It promises nothing of its own.
+//! `bench` serves sessions that only read or only write, and writes how long each took. Both promise nothing of their own.
 //!
-//! To change: what threads do is in `client.rt` and `administrator.rt`, a new kind of statement in `statements.rt`. Words
-//! are in `tasks.rt`.
+//! To change: what threads do is in `client.rt` and `administrator.rt`, a new kind of statement in `statements.rt`, a new
+//! measure in `measures.rt`. Words are in `tasks.rt`.
 #![tactic(auto)]
 
 mod administrator;
@@ -14,7 +14,7 @@ mod client;
 mod configured;
 mod gate;
 mod lines;
-mod started;
+mod measures;
 mod statements;
 mod tasks;
 mod trial;
@@ -54,15 +54,15 @@ fn end_with(output: &mut impl Sink, told: Option<Lines>) -> u8 {
 // What goes into threads has to be of types that are known here: no other function may have the host's handle.
 fn main(rt: HostRuntime) -> ExitCode {
     let alloc = rt.alloc();
-    let Some(plan) = words(&rt).ok().and_then(|words| task_of(&words)) else {
+    let Some(task) = words(&rt).ok().and_then(|words| task_of(&words)) else {
         let _ = write_all(&mut StdSink::new(rt.stderr()), USAGE.as_bytes());
         return ExitCode::from(2);
     };
     let Some(log) = log(rt, alloc) else {
         return ExitCode::from(1);
     };
-    let told = match setting(rt, alloc, plan) {
-        Some((conf, backends)) => try_tried(&rt, alloc, plan, conf, log, backends),
+    let told = match setting(rt, alloc, task) {
+        Some((conf, backends)) => try_tried(&rt, alloc, task, conf, log, backends),
         None => None,
     };
     ExitCode::from(end_with(&mut StdSink::new(rt.stdout()), told))

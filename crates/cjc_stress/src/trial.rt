@@ -1,4 +1,4 @@
-//! One start of a cluster: clients and an administrator, each in a thread of its own.
+//! One start of a cluster: what is done at it, in threads.
 
 ghost use Rattle.std.specs.Prelude.{◌≡◌, ◌≤◌, true, All, length, map, vec_capacity};
 ghost use Rattle.cj_outside.specs.Stores.{Only};
@@ -13,17 +13,17 @@ ghost use Rattle.cj_mem.specs.MemoryBackends.{fresh_state};
 
 use crate::administrator::{administer, audit};
 use crate::client::{create_tables, leave_orphan, serve_drawn, serve_planted};
-use crate::configured::Tried;
+use crate::configured::{Tried, parts_of};
 use crate::lines::Lines;
-use crate::started::started;
-use crate::tasks::{Plan, Wrong};
+use crate::measures::{create_rows, serve_alone, serve_measured};
+use crate::tasks::{Plan, Task, Wrong};
 use crate::worker::{Stage, Worker};
 use cj_backend::Backend;
 use cj_conf::Conf;
 use cj_control::{Control, Naming, Pass};
-use cj_core::{Backends, Shared};
+use cj_core::{Backends, Shared, World};
 use cj_model::NoMemory;
-use cj_outside::{Draw, PcgDraw, Store};
+use cj_outside::{Draw, Store};
 use std::alloc::Global;
 use std::marker::Brand;
 use std::sync::Wait;
@@ -32,68 +32,26 @@ use std::thread;
 use std::thread::Threads;
 use std::time::{Clock, Duration, Instant};
 
-/// So many clients there are.
-const CLIENTS: u64 = 16;
-
-/// So many there are where a fault is planted.
-const CLIENTS_PLANTED: u64 = 3;
-
 /// A thread waits for less than so many milliseconds between two things.
 const PAUSE: u64 = 4;
 
-/// What is tried at one start.
-#[derive(Clone, Copy)]
-struct Trial {
-    plan: Plan,
-    began: Instant,
-}
-
-impl Trial {
-    /// Whether no more sessions begin.
-    fn is_over<R: Clock>(&self, rt: &R) -> bool {
-        match self.began.elapsed(rt) {
-            Ok(passed) => passed.as_secs() >= self.plan.seconds,
-            Err(_) => true,
-        }
-    }
-
-    /// Returns how many clients there are.
-    fn clients(&self) -> u64
-        ensures { result ≤ 16 }
-    {
-        if self.plan.wrong == Wrong::Client {
-            CLIENTS_PLANTED
-        } else {
-            CLIENTS
-        }
-    }
-
-    /// Makes what a thread has for itself.
-    fn worker<J: Naming>(&self, alloc: Global, number: u64, pass: Pass<J>) -> Worker<J> {
-        let seed = self
-            .plan
-            .seed
-            .wrapping_mul(100)
-            .wrapping_add(self.plan.start);
-        Worker {
-            number,
-            rounds: 0,
-            pass,
-            draw: PcgDraw::new(seed.wrapping_mul(100).wrapping_add(number)),
-            lines: Lines::new(alloc),
-        }
+/// Whether no more sessions begin.
+fn is_over<R: Clock>(rt: &R, plan: Plan, began: Instant) -> bool {
+    match began.elapsed(rt) {
+        Ok(passed) => passed.as_secs() >= plan.seconds,
+        Err(_) => true,
     }
 }
 
-/// One thing that a thread does.
+/// One thing that a thread does where a cluster is tried.
 fn do_one<J: Naming, B: Backend + Drop, S: Store + Drop, R: Wait + Clock>(
     rt: &R,
     stage: &Stage<'_, J, B, S>,
-    trial: &Trial,
+    plan: Plan,
     worker: &mut Worker<J>,
 ) -> Result<(), NoMemory> {
     worker.rounds = worker.rounds.saturating_add(1);
-    if trial.plan.wrong == Wrong::Client {
+    if plan.wrong == Wrong::Client {
         return serve_planted(rt, stage, worker);
     }
     thread::sleep(rt, Duration::from_millis(worker.draw.below(PAUSE)));
@@ -106,42 +64,102 @@ fn do_one<J: Naming, B: Backend + Drop, S: Store + Drop, R: Wait + Clock>(
     }
 }
 
-/// Does what a thread is to do, until the time is over. Returns what it tells.
+/// What a thread does until the time is over, where a cluster is tried.
+fn do_many<J: Naming, B: Backend + Drop, S: Store + Drop, R: Wait + Clock>(
+    rt: &R,
+    stage: &Stage<'_, J, B, S>,
+    plan: Plan,
+    worker: &mut Worker<J>,
+) -> Result<(), NoMemory> {
+    worker.lines.add("thread")?;
+    worker.lines.add_number(worker.number)?;
+    worker.lines.end()?;
+    for _ in 0..u64::MAX {
+        if is_over(rt, plan, stage.began) {
+            break;
+        }
+        do_one(rt, stage, plan, worker)?;
+    }
+    Ok(())
+}
+
+/// Does all that a thread is to do. Returns what it tells.
 fn do_all<J: Naming, B: Backend + Drop, S: Store + Drop, R: Wait + Clock>(
     rt: &R,
     stage: &Stage<'_, J, B, S>,
-    trial: &Trial,
     mut worker: Worker<J>,
 ) -> Option<Lines> {
-    worker.lines.add("thread").ok()?;
-    worker.lines.add_number(worker.number).ok()?;
-    worker.lines.end().ok()?;
-    for _ in 0..u64::MAX {
-        if trial.is_over(rt) {
-            break;
-        }
-        do_one(rt, stage, trial, &mut worker).ok()?;
+    match stage.task {
+        Task::Stress(plan) => do_many(rt, stage, plan, &mut worker).ok()?,
+        Task::Bench(measure) => serve_measured(rt, stage, measure, &mut worker)?,
     }
     Some(worker.lines)
 }
 
-/// Makes what each thread has for itself: the administrator, and the clients.
+/// Makes what each thread has for itself.
 fn workers_of<J: Naming, B: Backend + Drop, S: Store + Drop>(
-    alloc: Global,
-    control: &Control<J, B, S>,
-    trial: &Trial,
+    stage: &Stage<'_, J, B, S>,
     pass: &mut Pass<J>,
 ) -> Option<Vec<Worker<J>>> {
-    let mut workers = Vec::new(alloc);
-    for number in 0..trial.clients() + 1 {
-        let pass = control.split(pass);
-        workers.push(trial.worker(alloc, number, pass)).ok()?;
+    let mut workers = Vec::new(stage.alloc);
+    for number in 0..=stage.task.threads() {
+        let pass = stage.control.split(pass);
+        let worker = Worker::new(stage.alloc, stage.task, number as u64, pass);
+        workers.push(worker).ok()?;
     }
     Some(workers)
 }
 
-/// Has all threads do what they are to do, and audits then. `main` is the thread that waits for them.
+/// What is done before all threads: their tables are made.
+fn begin<J: Naming, B: Backend + Drop, S: Store + Drop, R: Wait + Clock>(
+    rt: &R,
+    stage: &Stage<'_, J, B, S>,
+    main: &mut Worker<J>,
+) -> Option<()> {
+    let Task::Stress(plan) = stage.task else {
+        return create_rows(rt, stage, main);
+    };
+    main.lines.add("start").ok()?;
+    main.lines.add_number(plan.start).ok()?;
+    main.lines.end().ok()?;
+    if plan.start == 0 {
+        create_tables(rt, stage, main).ok()?;
+    }
+    Some(())
+}
+
+/// What is done after all threads, where a cluster is tried: an audit. A transaction is left open, which the next start
+/// ends.
+fn end<J: Naming, B: Backend + Drop, S: Store + Drop, R: Wait>(
+    rt: &R,
+    stage: &Stage<'_, J, B, S>,
+    main: &mut Worker<J>,
+) -> Result<(), NoMemory> {
+    if let Task::Bench(_) = stage.task {
+        return Ok(());
+    }
+    leave_orphan(rt, stage, main)?;
+    audit(rt, stage, main, "end")
+}
+
+/// Has all threads do what they are to do. `main` is the thread that waits for them.
 fn perform<
+    J: Naming + Send + Sync,
+    B: Backend + Drop + Send + Sync,
+    S: Store + Drop + Send,
+    R: Threads + Wait + Clock + Sync,
+>(rt: &R, stage: &Stage<'_, J, B, S>, main: &mut Worker<J>) -> Option<()> {
+    begin(rt, stage, main)?;
+    let workers = workers_of(stage, &mut main.pass)?;
+    let told = thread::map_vec(rt, workers, &|worker: Worker<J>| do_all(rt, stage, worker)).ok()?;
+    for each in told {
+        main.lines.add_all(each?).ok()?;
+    }
+    end(rt, stage, main).ok()
+}
+
+/// Shares the parts of a world, has threads do a task, and takes the cluster apart.
+fn try_shared<
     J: Naming + Send + Sync,
     B: Backend + Drop + Send + Sync,
     S: Store + Drop + Send,
@@ -149,36 +167,11 @@ fn perform<
 >(
     rt: &R,
     alloc: Global,
-    control: &Control<J, B, S>,
-    trial: &Trial,
-    main: &mut Worker<J>,
-) -> Option<()> {
-    let stage = Stage::new(alloc, control);
-    if trial.plan.start == 0 {
-        create_tables(rt, &stage, main).ok()?;
-    }
-    let workers = workers_of(alloc, control, trial, &mut main.pass)?;
-    let told = thread::map_vec(
-        rt,
-        workers,
-        &|worker: Worker<J>| do_all(rt, &stage, trial, worker),
-    )
-    .ok()?;
-    for each in told {
-        main.lines.add_all(each?).ok()?;
-    }
-    // The next start ends what this leaves open.
-    leave_orphan(rt, &stage, main).ok()?;
-    audit(rt, &stage, main, "end").ok()
-}
-
-/// Shares the parts of a world, tries the cluster, and takes it apart.
-fn try_shared<
-    J: Naming + Send + Sync,
-    B: Backend + Drop + Send + Sync,
-    S: Store + Drop + Send,
-    R: Threads + Wait + Clock + Sync,
->(rt: &R, alloc: Global, shared: Shared<B, S>, blank: Blank, trial: Trial) -> Option<Lines>
+    shared: Shared<B, S>,
+    blank: Blank,
+    task: Task,
+    began: Instant,
+) -> Option<Lines>
     requires world { AreOfStarted B.tells S.tells S.faults (board_id shared.board) (pass_board shared.pass) shared.book shared.recovery_log shared.cells.items shared.accounts shared.dumps }
     requires board { board_id shared.board ≡ J.board }
     requires layout { shared.book.state.layout ≡ J.layout }
@@ -187,22 +180,19 @@ fn try_shared<
     requires emptied { (length shared.emptied.items ≡ 0) × (BACKEND_LIMIT ≤ vec_capacity shared.emptied) }
 {
     let (control, pass) = Control::<J, B, S>::start(alloc, shared, blank).ok()?;
-    let mut main = trial.worker(alloc, 0, pass);
-    main.lines.add("start").ok()?;
-    main.lines.add_number(trial.plan.start).ok()?;
-    main.lines.end().ok()?;
-    perform(rt, alloc, &control, &trial, &mut main)?;
+    let mut main = Worker::new(alloc, task, 0, pass);
+    perform(rt, &Stage::new(alloc, &control, task, began), &mut main)?;
     let _stopped = control.into_backends(&mut main.pass)?;
     Some(main.lines)
 }
 
-/// Starts a cluster over these backends and the log, tries it, and stops it. Returns what its threads tell. None if it
+/// Starts a cluster over these backends and the log, does a task at it, and stops it. Returns what is told. None if it
 /// does not start, or memory is wanting.
 fn try_start<
     B: Backend + Drop + Send + Sync,
     S: Store + Drop + Send,
     R: Threads + Wait + Clock + Sync,
->(rt: &R, alloc: Global, plan: Plan, conf: Conf, log: S, backends: Backends<B>) -> Option<Lines>
+>(rt: &R, alloc: Global, task: Task, conf: Conf, log: S, backends: Backends<B>) -> Option<Lines>
     requires usable { IsUsable conf }
     requires as_many { length backends ≡ length conf.placement.names }
     requires empty { AreEmpty B.tells (map B.told backends) }
@@ -210,9 +200,18 @@ fn try_start<
     requires disk { S.tells ≡ true → Only (S.held log) (S.may log) }
 {
     let began = Instant::now(rt).ok()?;
-    let trial = Trial { plan, began };
-    let shared = started(alloc, conf, log, backends)?;
-    try_shared::<Brand, _, S, R>(rt, alloc, shared, Blank::new(1), trial)
+    let parts = parts_of(alloc, conf).ok()?;
+    let Ok(world) = World::start(alloc, parts, log, backends) else {
+        return None;
+    };
+    match task {
+        Task::Bench(measure) if measure.threads == 0 => {
+            serve_alone(rt, alloc, world, measure, began)
+        }
+        _ => {
+            try_shared::<Brand, _, S, R>(rt, alloc, world.into_shared(), Blank::new(1), task, began)
+        }
+    }
 }
 
 /// Does so over backends that were made for it, and not called yet.
@@ -223,7 +222,7 @@ pub fn try_tried<
 >(
     rt: &R,
     alloc: Global,
-    plan: Plan,
+    task: Task,
     conf: Conf,
     log: S,
     backends: Backends<Tried<C>>,
@@ -233,5 +232,5 @@ pub fn try_tried<
     requires fresh { All (λ b. b.inner ≡ fresh_over fresh_state b.inner.fails) backends }
     requires disk { S.tells ≡ true → Only (S.held log) (S.may log) }
 {
-    try_start(rt, alloc, plan, conf, log, backends)
+    try_start(rt, alloc, task, conf, log, backends)
 }
