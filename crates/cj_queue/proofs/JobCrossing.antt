@@ -27,7 +27,7 @@ pub job_send : (J : RattleType) (n : naming.Ghosts J.Denot) → IsSend J → IsS
 job_send J n sj = recorded_send (job.the_field J n).row _ _ (job.the_type J n).to_one (struct_send (shape (job.the_type J n)) (
   search sendable,
   (
-    search (entry_send, entry_sync, heap.crosses, heap.send, heap.sync, heap.frees, sendable) depth 60 fits 20000,
+    search (entry_send, entry_sync, heap.crosses, heap.frees, sendable) depth 60 fits 20000,
     (
       search (pass_send, sendable) depth 40,
       tt,

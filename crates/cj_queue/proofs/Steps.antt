@@ -1,5 +1,5 @@
 -- Each step keeps the rule of a lane's queue.
-use Rattle.std.proofs.Common.{◌≡◌, ◌≢◌, ℕ, ◌+◌, ◌<◌, ◌≤◌, zero, suc, true, false, true≢false, List, [], ◌∷◌, ◌++◌, length, set, slice_index_or, All, sym, refl, ap, ◌∙◌, subst, ⊎_elim, append_assoc, arith}
+use Rattle.std.proofs.Common.{◌≡◌, ◌≢◌, ℕ, ◌+◌, ◌<◌, ◌≤◌, zero, suc, true, false, true≢false, List, [], ◌∷◌, ◌++◌, length, set, slice_index_or, All, AllPairs, sym, refl, ap, ◌∙◌, subst, ⊎_elim, append_assoc, arith}
 use mathlib.Core.Option.{some, some-ne-none}
 use lib.ListN.{get_elem?}
 use Rattle.std.proofs.lemmas.List.{length-append}
@@ -7,8 +7,13 @@ use Rattle.std.proofs.lemmas.List.Elements.{All-append, All-weaker}
 use Rattle.std.proofs.lemmas.List.Quantifiers.{all_pairs_push}
 use Rattle.crossbeam_queue.specs.Fifo.{Pushes, Pops, Forks, Merges, Learns}
 use Rattle.crossbeam_queue.proofs.Lists.{at_set, at_snoc}
+use Rattle.cj_queue.specs.declared.numbered.Numbered.{Numbered}
 use Rattle.cj_queue.specs.declared.rule.LaneView.{LaneView}
-use Rattle.cj_queue.specs.Rule.{lane_view, Fits, IsInOrder, IsRisingBy}
+use Rattle.cj_queue.specs.Rule.{lane_view, Fits, IsInOrder, IsRising}
+
+-- the number of each is below those of all behind it
+abbrev IsRisingBy : {T : Type 0} → (T → ℕ) → List T → Type 0
+IsRisingBy {T} number jobs = AllPairs (λ (j k : T). number j < number k) jobs
 
 module _ {T : Type 0} where
   -- ---- lists
@@ -45,6 +50,7 @@ module _ {T : Type 0} where
       let P : T → Type 0 = λ j. number j ≤ number x in
       All-append P xs (x ∷ []) (All-weaker (λ (j : T). number j < number x) P (λ j low. omega (arith, low)) xs lower) (only P x (omega arith))
 
+module _ {T : Type 0} where
   -- ---- views
 
   -- each pass has its number, and knows this
@@ -62,8 +68,10 @@ module _ {T : Type 0} where
   each_set F views pass w mine others j u e = ⊎_elim (λ (x : (j ≡ pass) × (w ≡ u)). subst (λ (y : ℕ × LaneView T). F y.0 y.1) (λ i. (sym x.0 i, x.1 i)) mine)
       (λ (x : (j ≢ pass) × (get_elem? views j ≡ some u)). others j u x.0 x.1) (at_set views pass j w u e)
 
-module _ {T : Type 0} (number : T → ℕ) where
-  pub begins : IsInOrder number [] (lane_view true true [] [] ∷ [])
+module _ {T : Type 0} where
+  -- ---- steps
+
+  pub begins : IsInOrder {T = T} [] (lane_view true true [] [] ∷ [])
   begins = record {
     poster = 0;
     taker = 0;
@@ -75,31 +83,31 @@ module _ {T : Type 0} (number : T → ℕ) where
         (λ j u other e. absurd (other (new_is_last [] _ u j (λ x. some-ne-none u (sym x)) e)));
   }
 
-  pub posts : (n pass : ℕ) (v : LaneView T) (x : T) → v.posts ≡ true → All (λ (j : T). number j < number x) v.posted → Pushes (IsInOrder number) n pass v x (λ w. w ≡ lane_view v.posts v.takes (v.posted ++ x ∷ []) v.taken)
+  pub posts : (n pass : ℕ) (v : LaneView T) (x : Numbered T) → v.posts ≡ true → All (λ (j : Numbered T). j.number < x.number) v.posted → Pushes (IsInOrder) n pass v x (λ w. w ≡ lane_view v.posts v.takes (v.posted ++ x ∷ []) v.taken)
   posts n pass v x may lower items views _ h at =
       let w : LaneView T = lane_view v.posts v.takes (v.posted ++ x ∷ []) v.taken in
       let mine = h.fits pass v at in
-      let all : List T = h.posted ++ x ∷ [] in (
+      let all : List (Numbered T) = h.posted ++ x ∷ [] in (
         w,
         record {
           poster = h.poster;
           taker = h.taker;
           posted = all;
           taken = h.taken;
-          order = ap (λ (l : List T). l ++ x ∷ []) h.order ∙ append_assoc h.taken items (x ∷ []);
-          rising = rising_more number h.posted x h.rising (subst (All (λ (j : T). number j < number x)) (mine.0 may).1 lower);
-          fits = each_set (Fits h.poster h.taker all h.taken) views pass w ((λ _. ((mine.0 may).0, ap (λ (l : List T). l ++ x ∷ []) (mine.0 may).1)), mine.1)
+          order = ap (λ (l : List (Numbered T)). l ++ x ∷ []) h.order ∙ append_assoc h.taken items (x ∷ []);
+          rising = rising_more (λ (j : Numbered T). j.number) h.posted x h.rising (subst (All (λ (j : Numbered T). j.number < x.number)) (mine.0 may).1 lower);
+          fits = each_set (Fits h.poster h.taker all h.taken) views pass w ((λ _. ((mine.0 may).0, ap (λ (l : List (Numbered T)). l ++ x ∷ []) (mine.0 may).1)), mine.1)
               (λ j u other e. ((λ p. absurd (other (((h.fits j u e).0 p).0 ∙ sym (mine.0 may).0))), (h.fits j u e).1));
         },
         refl,
       )
 
   pub takes : (pass : ℕ) (v : LaneView T) → v.takes ≡ true
-      → Pops (IsInOrder number) pass v (λ x w. (w ≡ lane_view v.posts v.takes v.posted (v.taken ++ x ∷ [])) × All (λ (j : T). number j < number x) v.taken)
+      → Pops (IsInOrder) pass v (λ x w. (w ≡ lane_view v.posts v.takes v.posted (v.taken ++ x ∷ [])) × All (λ (j : Numbered T). j.number < x.number) v.taken)
   takes pass v may x items views h at =
       let w : LaneView T = lane_view v.posts v.takes v.posted (v.taken ++ x ∷ []) in
       let mine = h.fits pass v at in
-      let all : List T = h.taken ++ x ∷ [] in (
+      let all : List (Numbered T) = h.taken ++ x ∷ [] in (
         w,
         record {
           poster = h.poster;
@@ -108,16 +116,16 @@ module _ {T : Type 0} (number : T → ℕ) where
           taken = all;
           order = h.order ∙ sym (append_assoc h.taken (x ∷ []) items);
           rising = h.rising;
-          fits = each_set (Fits h.poster h.taker h.posted all) views pass w (mine.0, λ _. ((mine.1 may).0, ap (λ (l : List T). l ++ x ∷ []) (mine.1 may).1))
+          fits = each_set (Fits h.poster h.taker h.posted all) views pass w (mine.0, λ _. ((mine.1 may).0, ap (λ (l : List (Numbered T)). l ++ x ∷ []) (mine.1 may).1))
               (λ j u other e. ((h.fits j u e).0, λ p. absurd (other (((h.fits j u e).1 p).0 ∙ sym (mine.1 may).0))));
         },
         (
           refl,
-          subst (All (λ (j : T). number j < number x)) (sym (mine.1 may).1) (lower_before number h.taken x items (subst (IsRisingBy number) h.order h.rising)),
+          subst (All (λ (j : Numbered T). j.number < x.number)) (sym (mine.1 may).1) (lower_before (λ (j : Numbered T). j.number) h.taken x items (subst IsRising h.order h.rising)),
         ),
       )
 
-  pub splits : (pass : ℕ) (v : LaneView T) → v.posts ≡ true → v.takes ≡ true → Forks (IsInOrder number) pass v (lane_view true false v.posted []) (lane_view false true [] v.taken)
+  pub splits : (pass : ℕ) (v : LaneView T) → v.posts ≡ true → v.takes ≡ true → Forks (IsInOrder) pass v (lane_view true false v.posted []) (lane_view false true [] v.taken)
   splits pass v a b items views h at =
       let l : LaneView T = lane_view true false v.posted [] in
       let r : LaneView T = lane_view false true [] v.taken in
@@ -143,7 +151,7 @@ module _ {T : Type 0} (number : T → ℕ) where
       }
 
   pub joins : (pass : ℕ) (v : LaneView T) (other : ℕ) (u : LaneView T) → v.posts ≡ true → u.takes ≡ true
-      → Merges (IsInOrder number) pass v other u (lane_view true true v.posted u.taken) (lane_view false false [] [])
+      → Merges (IsInOrder) pass v other u (lane_view true true v.posted u.taken) (lane_view false false [] [])
   joins pass v other u a b items views h at two at' =
       let both : LaneView T = lane_view true true v.posted u.taken in
       let mine = h.fits pass v at in
@@ -165,13 +173,19 @@ module _ {T : Type 0} (number : T → ℕ) where
       }
 
   -- what the queue holds is the last that was posted
-  pub holds_last : (pass : ℕ) (v : LaneView T) → v.posts ≡ true → Learns (IsInOrder number) pass v (λ items. (before : List T) × (v.posted ≡ before ++ items))
+  pub holds_last : (pass : ℕ) (v : LaneView T) → v.posts ≡ true → Learns (IsInOrder) pass v (λ items. (before : List (Numbered T)) × (v.posted ≡ before ++ items))
   holds_last pass v a items views h at = (h.taken, ((h.fits pass v at).0 a).1 ∙ h.order)
 
   -- the poster's end after it posted a job
-  module _ (v w : LaneView T) (x : T) (last : ℕ) (is : w ≡ lane_view v.posts v.takes (v.posted ++ x ∷ []) v.taken) (within : All (λ (j : T). number j ≤ last) v.posted) (above : last < number x) where
-    pub within_more : All (λ (j : T). number j ≤ number x) w.posted
-    within_more = subst (λ (u : LaneView T). All (λ (j : T). number j ≤ number x) u.posted) (sym is) (at_most number v.posted x (below_next number v.posted last (number x) within above))
+  pub still_posts : (v w : LaneView T) (x : Numbered T) → w ≡ lane_view v.posts v.takes (v.posted ++ x ∷ []) v.taken → v.posts ≡ true → w.posts ≡ true
+  still_posts v w x is may = ap (λ (u : LaneView T). u.posts) is ∙ may
 
-    pub posted_rising : IsRisingBy number v.posted → IsRisingBy number w.posted
-    posted_rising rising = subst (λ (u : LaneView T). IsRisingBy number u.posted) (sym is) (rising_more number v.posted x rising (below_next number v.posted last (number x) within above))
+  module _ (v w : LaneView T) (x : Numbered T) (last : ℕ) (is : w ≡ lane_view v.posts v.takes (v.posted ++ x ∷ []) v.taken) (within : All (λ (j : Numbered T). j.number ≤ last) v.posted) (above : last < x.number) where
+    below_x : All (λ (j : Numbered T). j.number < x.number) v.posted
+    below_x = below_next (λ (j : Numbered T). j.number) v.posted last x.number within above
+
+    pub within_more : All (λ (j : Numbered T). j.number ≤ x.number) w.posted
+    within_more = subst (λ (u : LaneView T). All (λ (j : Numbered T). j.number ≤ x.number) u.posted) (sym is) (at_most (λ (j : Numbered T). j.number) v.posted x below_x)
+
+    pub posted_rising : IsRising v.posted → IsRising w.posted
+    posted_rising rising = subst (λ (u : LaneView T). IsRising u.posted) (sym is) (rising_more (λ (j : Numbered T). j.number) v.posted x rising below_x)

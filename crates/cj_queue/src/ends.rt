@@ -2,7 +2,8 @@
 
 ghost use Rattle.std.specs.Prelude.{◌≡◌, ◌≤◌, [], true, All};
 ghost use Rattle.crossbeam_queue.specs.Passes.{view};
-ghost use Rattle.cj_queue.specs.Rule.{IsRisingBy};
+ghost use Rattle.cj_queue.specs.declared.numbered.Numbered.{Numbered};
+ghost use Rattle.cj_queue.specs.Rule.{IsRising};
 
 use crate::numbered::Numbered;
 use crate::rule::LaneView;
@@ -10,25 +11,25 @@ use crossbeam_queue::Pass;
 
 /// The end of a lane by which jobs are posted.
 #[derive(Drop)]
-pub struct Poster<T: Numbered> {
-    pub(crate) pass: Pass<T, LaneView<T>>,
+pub struct Poster<T> {
+    pub(crate) pass: Pass<Numbered<T>, LaneView<T>>,
     /// The number of the last job that was posted, 0 if there is none.
     pub(crate) last: u64,
     ghost posts: { (view pass).posts ≡ true },
-    ghost within: { All (λ (j : T). T.number_of j ≤ last) (view pass).posted },
-    ghost rising: { IsRisingBy T.number_of (view pass).posted },
+    ghost within: { All (λ (j : Numbered T). j.number ≤ last) (view pass).posted },
+    ghost rising: { IsRising (view pass).posted },
 }
 
 /// The end of a lane by which jobs are taken.
 #[derive(Drop)]
-pub struct Taker<T: Numbered> {
-    pub(crate) pass: Pass<T, LaneView<T>>,
+pub struct Taker<T> {
+    pub(crate) pass: Pass<Numbered<T>, LaneView<T>>,
     ghost takes: { (view pass).takes ≡ true },
 }
 
-impl<T: Numbered> Poster<T> {
+impl<T> Poster<T> {
     /// Makes the end of a pass that may post and has posted nothing.
-    pub(crate) fn new(pass: Pass<T, LaneView<T>>) -> Poster<T>
+    pub(crate) fn new(pass: Pass<Numbered<T>, LaneView<T>>) -> Poster<T>
         requires { ((view pass).posts ≡ true) × ((view pass).posted ≡ []) }
         ensures { (result.pass ≡ pass) × (result.last ≡ 0) }
     {
@@ -43,9 +44,9 @@ impl<T: Numbered> Poster<T> {
     }
 }
 
-impl<T: Numbered> Taker<T> {
+impl<T> Taker<T> {
     /// Makes the end of a pass that may take.
-    pub(crate) fn new(pass: Pass<T, LaneView<T>>) -> Taker<T>
+    pub(crate) fn new(pass: Pass<Numbered<T>, LaneView<T>>) -> Taker<T>
         requires { (view pass).takes ≡ true }
         ensures { result.pass ≡ pass }
     {

@@ -5,7 +5,6 @@ ghost use Rattle.std.specs.Arc.{arc_value};
 ghost use Rattle.cj_cluster.specs.History.Histories.{log};
 ghost use Rattle.cj_board.specs.Seats.{front};
 
-use crate::numbered::Numbered;
 use cj_model::Entry;
 use cj_pass::{Naming, Pass};
 use std::alloc::Global;
@@ -21,14 +20,6 @@ pub struct Job<J: Naming> {
     pub pass: Pass<J>,
     ghost numbered: { 0 < number },
     ghost scheduled: { slice_get (log (front pass.seat)) (number - 1) ≡ Some (arc_value entry) },
-}
-
-impl<J: Naming> Numbered for Job<J> {
-    ghost number_of = { λ job. job.number };
-
-    fn number(&self) -> u64 {
-        self.number
-    }
 }
 
 impl<J: Naming> Job<J> {

@@ -2,7 +2,8 @@
 
 ghost use Rattle.std.specs.Prelude.{◌≡◌, ◌<◌, ℕ, List, [], ◌∷◌, ◌++◌, length, All, IfErr, IfOk, IfSome, MatchOption, OnErr, OnOk};
 ghost use Rattle.cj_queue.specs.Lanes.{capacity_of, posted, taken, IsFull, IsPosterOf, IsTakerOf};
-ghost use Rattle.cj_queue.specs.Rule.{IsRisingBy};
+ghost use Rattle.cj_queue.specs.declared.numbered.Numbered.{Numbered};
+ghost use Rattle.cj_queue.specs.Rule.{IsRising};
 
 use crate::ends::{Poster, Taker};
 use crate::numbered::Numbered;
@@ -14,11 +15,11 @@ use std::sync::Wait;
 
 /// A lane: a queue with room for so many jobs. What is taken is a prefix of what was posted.
 #[derive(Drop)]
-pub struct Lane<T: Numbered + Drop> {
-    pub(crate) queue: RuledArrayQueue<T, LaneView<T>, InOrder<T>, Global>,
+pub struct Lane<T> {
+    pub(crate) queue: RuledArrayQueue<Numbered<T>, LaneView<T>, InOrder<T>, Global>,
 }
 
-impl<T: Numbered + Drop> Lane<T> {
+impl<T: Drop> Lane<T> {
     /// Makes a lane with room for so many jobs, and its two ends.
     pub fn new(alloc: Global, capacity: usize) -> Result<(Lane<T>, Poster<T>, Taker<T>), NoMemory>
         requires { 0 < capacity }
@@ -34,16 +35,16 @@ impl<T: Numbered + Drop> Lane<T> {
     /// Posts a job behind all others. Its number is above theirs.
     ///
     /// The job is handed back only where the lane was full at a moment of the call.
-    pub fn post<R: Wait>(&self, rt: &R, poster: &mut Poster<T>, job: T) -> Result<(), T>
+    pub fn post<R: Wait>(&self, rt: &R, poster: &mut Poster<T>, job: Numbered<T>) -> Result<(), Numbered<T>>
         requires end { IsPosterOf self.now poster.old }
-        requires rises { poster.old.last < T.number_of job }
+        requires rises { poster.old.last < job.number }
         ensures end { IsPosterOf self.now poster.new }
-        ensures posted { OnOk result ((posted poster.new ≡ posted poster.old ++ job ∷ []) × (poster.new.last ≡ T.number_of job)) }
+        ensures posted { OnOk result ((posted poster.new ≡ posted poster.old ++ job ∷ []) × (poster.new.last ≡ job.number)) }
         ensures back { IfErr result (λ j. j ≡ job) }
         ensures same { OnErr result ((posted poster.new ≡ posted poster.old) × (poster.new.last ≡ poster.old.last)) }
         ensures full { OnErr result (IsFull (capacity_of self.now) (posted poster.old)) }
     {
-        let number = job.number();
+        let number = job.number;
         match self.queue.push_as::<Posts<T>, R>(rt, &mut poster.pass, job) {
             Ok(()) => {
                 poster.last = number;
@@ -56,11 +57,11 @@ impl<T: Numbered + Drop> Lane<T> {
     /// Takes the first job of those that are left. Its number is above those of all that were taken before.
     ///
     /// `None` only where the lane was empty at a moment of the call.
-    pub fn take<R: Wait>(&self, rt: &R, taker: &mut Taker<T>) -> Option<T>
+    pub fn take<R: Wait>(&self, rt: &R, taker: &mut Taker<T>) -> Option<Numbered<T>>
         requires end { IsTakerOf self.now taker.old }
         ensures end { IsTakerOf self.now taker.new }
         ensures taken { MatchOption result (taken taker.new ≡ taken taker.old) (λ job. taken taker.new ≡ taken taker.old ++ job ∷ []) }
-        ensures rises { IfSome result (λ job. All (λ (j : T). T.number_of j < T.number_of job) (taken taker.old)) }
+        ensures rises { IfSome result (λ job. All (λ (j : Numbered T). j.number < job.number) (taken taker.old)) }
     {
         self.queue.pop_as::<Takes<T>, R>(rt, &mut taker.pass)
     }
@@ -70,8 +71,8 @@ impl<T: Numbered + Drop> Lane<T> {
     /// What was taken is a prefix of what was posted, and the numbers of what was posted rise.
     pub fn close<R: Wait>(self, rt: &R, poster: Poster<T>, taker: Taker<T>) -> u64
         requires ends { IsPosterOf self poster × IsTakerOf self taker }
-        ensures prefix { (left : List T) × (posted poster ≡ taken taker ++ left) × (result ≡ length left) }
-        ensures rising { IsRisingBy T.number_of (posted poster) }
+        ensures prefix { (left : List (Numbered T)) × (posted poster ≡ taken taker ++ left) × (result ≡ length left) }
+        ensures rising { IsRising (posted poster) }
     {
         let Poster { mut pass, .. } = poster;
         let Taker { pass: other } = taker;

@@ -1,11 +1,8 @@
 //! What stands in a lane.
 
-/// What has a number, by which it stands in a lane.
-pub trait Numbered {
-    ghost use Rattle.std.specs.Prelude.{◌≡◌, ℕ};
-
-    ghost number_of: { Self → ℕ };
-
-    fn number(&self) -> u64
-        ensures { result ≡ number_of self.now };
+/// Something with a number, by which it stands in a lane.
+#[derive(Clone, Copy, Debug, Drop, PartialEq, Eq)]
+pub struct Numbered<T> {
+    pub number: u64,
+    pub item: T,
 }

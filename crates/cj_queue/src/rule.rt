@@ -9,8 +9,8 @@ use std::marker::PhantomData;
 pub struct LaneView<T> {
     pub posts: bool,
     pub takes: bool,
-    pub posted: LinkedList<T>,
-    pub taken: LinkedList<T>,
+    pub posted: LinkedList<Numbered<T>>,
+    pub taken: LinkedList<Numbered<T>>,
 }
 
 /// The rule: what was posted is what was taken and then what the queue holds, and the numbers rise.
@@ -18,11 +18,11 @@ pub struct InOrder<T> {
     of: PhantomData<T>,
 }
 
-impl<T: Numbered> Protocol<T, LaneView<T>> for InOrder<T> {
+impl<T> Protocol<Numbered<T>, LaneView<T>> for InOrder<T> {
     ghost use Rattle.std.specs.Prelude.{true, []};
     ghost use Rattle.cj_queue.specs.Rule.{lane_view, IsInOrder};
 
-    ghost holds = { IsInOrder T.number_of };
+    ghost holds = { IsInOrder };
 
     ghost first = { lane_view true true [] [] };
 }
@@ -55,17 +55,18 @@ pub struct Posts<T> {
     of: PhantomData<T>,
 }
 
-impl<T> Outcome<T, LaneView<T>> for Posts<T> {
+impl<T> Outcome<Numbered<T>, LaneView<T>> for Posts<T> {
     ghost use Rattle.std.specs.Prelude.{◌≡◌, ◌++◌, ◌∷◌, []};
     ghost use Rattle.cj_queue.specs.Rule.{lane_view};
 
     ghost then = { λ v job w. w ≡ lane_view v.posts v.takes (v.posted ++ job ∷ []) v.taken };
 }
 
-impl<T> Lesson<T, LaneView<T>> for Posts<T> {
+impl<T> Lesson<Numbered<T>, LaneView<T>> for Posts<T> {
     ghost use Rattle.std.specs.Prelude.{◌≡◌, ◌++◌, List};
+    ghost use Rattle.cj_queue.specs.declared.numbered.Numbered.{Numbered};
 
-    ghost fact = { λ v items. (taken : List T) × (v.posted ≡ taken ++ items) };
+    ghost fact = { λ v items. (taken : List (Numbered T)) × (v.posted ≡ taken ++ items) };
 }
 
 /// A job is taken, with a number above those of all that were taken before.
@@ -73,14 +74,14 @@ pub struct Takes<T> {
     of: PhantomData<T>,
 }
 
-impl<T: Numbered> Outcome<T, LaneView<T>> for Takes<T> {
+impl<T> Outcome<Numbered<T>, LaneView<T>> for Takes<T> {
     ghost use Rattle.std.specs.Prelude.{◌≡◌, ◌<◌, ◌++◌, ◌∷◌, [], All};
     ghost use Rattle.cj_queue.specs.Rule.{lane_view};
 
-    ghost then = { λ v job w. (w ≡ lane_view v.posts v.takes v.posted (v.taken ++ job ∷ [])) × All (λ j. T.number_of j < T.number_of job) v.taken };
+    ghost then = { λ v job w. (w ≡ lane_view v.posts v.takes v.posted (v.taken ++ job ∷ [])) × All (λ j. j.number < job.number) v.taken };
 }
 
-impl<T> Lesson<T, LaneView<T>> for Takes<T> {
+impl<T> Lesson<Numbered<T>, LaneView<T>> for Takes<T> {
     ghost use Rattle.std.specs.Prelude.{⊤};
 
     ghost fact = { λ v items. ⊤ };
@@ -91,7 +92,7 @@ pub struct Compares<T> {
     of: PhantomData<T>,
 }
 
-impl<T> Lesson<T, LaneView<T>> for Compares<T> {
+impl<T> Lesson<Numbered<T>, LaneView<T>> for Compares<T> {
     ghost use Rattle.std.specs.Prelude.{◌≡◌, ◌++◌};
 
     ghost fact = { λ v items. v.posted ≡ v.taken ++ items };

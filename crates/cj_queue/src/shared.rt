@@ -15,7 +15,7 @@ use std::sync::{Arc, Mutex, Wait};
 ///
 /// A thread that holds one of the locks takes no other, and holds it no longer than one step of the queue.
 #[derive(Drop)]
-pub struct SharedLane<T: Numbered + Drop> {
+pub struct SharedLane<T> {
     poster: Mutex<LockedPoster<T>>,
     taker: Mutex<LockedTaker<T>>,
     /// Here a worker without a job sleeps.
@@ -23,7 +23,7 @@ pub struct SharedLane<T: Numbered + Drop> {
     stopped: AtomicBool,
 }
 
-impl<T: Numbered + Drop> SharedLane<T> {
+impl<T: Drop> SharedLane<T> {
     /// Makes a lane with room for so many jobs.
     pub fn new(alloc: Global, capacity: usize) -> Result<SharedLane<T>, NoMemory>
         requires { 0 < capacity }
@@ -42,7 +42,7 @@ impl<T: Numbered + Drop> SharedLane<T> {
     /// Posts a job and wakes the worker, if it sleeps.
     ///
     /// The job is handed back where the lane is full, or where one with its number or a higher one was posted.
-    pub fn post<R: Wait>(&self, rt: &R, job: T) -> Result<(), T>
+    pub fn post<R: Wait>(&self, rt: &R, job: Numbered<T>) -> Result<(), Numbered<T>>
         ensures back { IfErr result (λ j. j ≡ job) }
     {
         let posted = self.post_quietly(rt, job);
@@ -53,21 +53,21 @@ impl<T: Numbered + Drop> SharedLane<T> {
     /// Posts a job and wakes nobody. For a caller that goes on to take it, where no worker does so before.
     ///
     /// The job is handed back where the lane is full, or where one with its number or a higher one was posted.
-    pub fn post_quietly<R: Wait>(&self, rt: &R, job: T) -> Result<(), T>
+    pub fn post_quietly<R: Wait>(&self, rt: &R, job: Numbered<T>) -> Result<(), Numbered<T>>
         ensures back { IfErr result (λ j. j ≡ job) }
     {
         self.poster.lock(rt).post(rt, job)
     }
 
     /// Takes the first job that nobody has taken. `None` if there is none.
-    pub fn take<R: Wait>(&self, rt: &R) -> Option<T> {
+    pub fn take<R: Wait>(&self, rt: &R) -> Option<Numbered<T>> {
         self.taker.lock(rt).take(rt)
     }
 
     /// Waits for a job and takes it. The thread sleeps while there is none.
     ///
     /// `None` once the lane was stopped and has no job.
-    pub fn next<R: Wait>(&self, rt: &R) -> Option<T> {
+    pub fn next<R: Wait>(&self, rt: &R) -> Option<Numbered<T>> {
         for _ in rt.forever() {
             let waiting = self.posted.prepare_wait();
             // Looked up before the lane, so that each job that was posted before the stop is taken.

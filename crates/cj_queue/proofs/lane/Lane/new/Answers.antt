@@ -4,7 +4,7 @@ use Rattle.cj_queue.proofs.Steps.{begins, splits}
 use Rattle.cj_queue.proofs.lane.Lane.new.Goals as goal
 
 pub ruled-requires-clause-rule : goal.ruled-requires-clause-rule
-ruled-requires-clause-rule g c = begins g.T.Numbered.number_of
+ruled-requires-clause-rule g c = begins
 
 pub another-other-requires-clause-rule : goal.another-other-requires-clause-rule
-another-other-requires-clause-rule g c = splits g.T.Numbered.number_of c.in_ok-queue.pass.id (view c.in_ok-queue.pass) (search rules) (search rules)
+another-other-requires-clause-rule g c = splits c.in_ok-queue.pass.id (view c.in_ok-queue.pass) (search rules) (search rules)

@@ -5,6 +5,6 @@ use Rattle.cj_queue.proofs.lane.Lane.take.Goals as goal
 pub pop_as-requires-clause-rule : goal.pop_as-requires-clause-rule
 pop_as-requires-clause-rule g c =
     let t = c.args.taker.now in (
-      takes g.T.Numbered.number_of t.pass.id (view t.pass) t.takes,
+      takes t.pass.id (view t.pass) t.takes,
       λ items views h at. tt,
     )
