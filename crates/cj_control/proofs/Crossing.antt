@@ -22,6 +22,7 @@ use Rattle.cj_pass.specs.contracts.pass.NamedBoard as named_board
 use Rattle.cj_locked.specs.contracts.book.LockedBook as locked_book
 use Rattle.cj_locked.specs.contracts.book.LockedBook.TheInside as locked_book_inside
 use Rattle.cj_locked_cell.specs.contracts.cell.LockedCell as locked_cell
+use Rattle.cj_workers.proofs.Crossing.{work_lane_send, work_lane_sync}
 use Rattle.cj_locks.specs.contracts.locks.Locks as locks
 use Rattle.cj_control.specs.contracts.control.Control as control
 use Rattle.cj_book.specs.contracts.book_log.BookLog as book_log
@@ -181,13 +182,13 @@ pub pass_send : (J : RattleType) (n : naming.Ghosts J.Denot) → IsSend J → Is
 pass_send J n sj = search (event_send, seat.the_send, sendable) depth 40
 
 locks_sync : (J B S : RattleType) (n : naming.Ghosts J.Denot) (b : backend.Ghosts B.Denot) (s : store.Ghosts S.Denot) → IsSend J → IsSync J → IsSend B → IsSend S → IsSync (locks.the_field J B S n b s).row
-locks_sync J B S n b s sj yj sb ss = search (named_board_sync, locked_book_send, locked_cell_send, heap.crosses, sendable) depth 60 fits 20000
+locks_sync J B S n b s sj yj sb ss = search (named_board_sync, locked_book_send, locked_cell_send, work_lane_send, work_lane_sync, heap.crosses, sendable) depth 60 fits 20000
 
 pub control_sync : (J B S : RattleType) (n : naming.Ghosts J.Denot) (b : backend.Ghosts B.Denot) (s : store.Ghosts S.Denot) → IsSend J → IsSync J → IsSend B → IsSend S → IsSync (control.the_row J B S n b s)
 control_sync J B S n b s sj yj sb ss = search (locks_sync, locked_cell_send, heap.crosses, sendable) depth 60 fits 20000
 
 locks_send : (J B S : RattleType) (n : naming.Ghosts J.Denot) (b : backend.Ghosts B.Denot) (s : store.Ghosts S.Denot) → IsSend J → IsSend B → IsSend S → IsSend (locks.the_field J B S n b s).row
-locks_send J B S n b s sj sb ss = search (named_board_send, locked_book_send, locked_cell_send, heap.crosses, sendable) depth 60 fits 20000
+locks_send J B S n b s sj sb ss = search (named_board_send, locked_book_send, locked_cell_send, work_lane_send, heap.crosses, sendable) depth 60 fits 20000
 
 pub control_send : (J B S : RattleType) (n : naming.Ghosts J.Denot) (b : backend.Ghosts B.Denot) (s : store.Ghosts S.Denot) → IsSend J → IsSend B → IsSend S → IsSend (control.the_row J B S n b s)
 control_send J B S n b s sj sb ss = search (locks_send, locked_cell_send, heap.crosses, sendable) depth 60 fits 20000

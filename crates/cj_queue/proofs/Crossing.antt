@@ -26,3 +26,10 @@ shared_lane_sync T st = search (locked_poster_send, locked_taker_send, heap.cros
 
 pub shared_lane_send : (T : RattleType) → IsSend T → IsSend (shared_lane.the_row T)
 shared_lane_send T st = search (locked_poster_send, locked_taker_send, heap.crosses, sendable) depth 60 fits 20000
+
+-- and as the field of another type
+pub shared_field_sync : (T : RattleType) → IsSend T → IsSync (shared_lane.the_field T).row
+shared_field_sync T st = search (locked_poster_send, locked_taker_send, heap.crosses, sendable) depth 60 fits 20000
+
+pub shared_field_send : (T : RattleType) → IsSend T → IsSend (shared_lane.the_field T).row
+shared_field_send T st = search (locked_poster_send, locked_taker_send, heap.crosses, sendable) depth 60 fits 20000
