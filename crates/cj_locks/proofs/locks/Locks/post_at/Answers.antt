@@ -12,4 +12,4 @@ pub new-job-requires-clause-scheduled : goal.new-job-requires-clause-scheduled
 new-job-requires-clause-scheduled g c =
     let e = arc_value c.args.e.now in
     let there = entry_there (placement_of g.J.Naming.layout) (front c.args.pass.now.seat) c.args.n e c.requires.scheduled in
-    subst (λ (x : Entry). slice_get (log (front c.split.result.seat)) (c.args.n - 1) ≡ Some x) (sym (ap arc_value c.in-Ok.ensures)) (ap (λ (v : SeatView). slice_get (log v.front) (c.args.n - 1)) c.split.ensures.other ∙ there)
+    subst (λ (x : Entry). slice_get (log (front c.split.result.seat)) (c.args.n - 1) ≡ Some x) (sym c.in-Ok.ensures) (ap (λ (v : SeatView). slice_get (log v.front) (c.args.n - 1)) c.split.ensures.other ∙ there)
