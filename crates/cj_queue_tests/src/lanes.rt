@@ -1,6 +1,6 @@
 //! Lanes whose jobs are tickets.
 
-ghost use Rattle.std.specs.Prelude.{ℕ};
+ghost use Rattle.std.specs.Prelude.{◌≡◌};
 
 use cj_model::NoMemory;
 use cj_queue::{Lane, Numbered, SharedLane};
@@ -12,21 +12,15 @@ use std::thread;
 /// How many tickets the worker is handed.
 const TICKETS: u64 = 1000;
 
-#[derive(Debug, Drop, PartialEq, Eq)]
-struct Ticket {
-    number: u64,
-}
-
-impl Numbered for Ticket {
-    ghost number_of = { λ ticket. ticket.number };
-
-    fn number(&self) -> u64 {
-        self.number
-    }
+/// A ticket of this number.
+fn ticket(number: u64) -> Numbered<()>
+    ensures { result.number ≡ number }
+{
+    Numbered { number, item: () }
 }
 
 /// The number of the next ticket of a lane, 0 if it has none.
-fn next_of<R: Wait>(rt: &R, lane: &SharedLane<Ticket>) -> u64 {
+fn next_of<R: Wait>(rt: &R, lane: &SharedLane<()>) -> u64 {
     match lane.take(rt) {
         Some(ticket) => ticket.number,
         None => 0,
@@ -34,12 +28,28 @@ fn next_of<R: Wait>(rt: &R, lane: &SharedLane<Ticket>) -> u64 {
 }
 
 /// Whether the ticket of this number was posted.
-fn is_posted<R: Wait>(rt: &R, lane: &SharedLane<Ticket>, number: u64) -> bool {
-    lane.post(rt, Ticket { number }).is_ok()
+fn is_posted<R: Wait>(rt: &R, lane: &SharedLane<()>, number: u64) -> bool {
+    lane.post(rt, ticket(number)).is_ok()
 }
 
 #[test]
 fn a_full_lane_hands_back_and_gives_the_rest_in_order(rt: HostRuntime) -> Result<(), Fail> {
+    let (lane, mut poster, mut taker) = Lane::new(rt.alloc(), 2)?;
+    assert!(rt; lane.post(&rt, &mut poster, ticket(1)) == Ok(()));
+    assert!(rt; poster.last() == 1 && lane.post(&rt, &mut poster, ticket(2)) == Ok(()));
+    assert!(rt; poster.last() == 2 && lane.post(&rt, &mut poster, ticket(3)) == Err(ticket(3)));
+    assert!(rt; lane.take(&rt, &mut taker) == Some(ticket(1)));
+    assert!(rt; poster.last() == 2 && lane.post(&rt, &mut poster, ticket(3)) == Ok(()));
+    for number in [2, 3] {
+        assert!(rt; lane.take(&rt, &mut taker) == Some(ticket(number)));
+    }
+    assert!(rt; lane.take(&rt, &mut taker) == None);
+    assert!(rt; lane.close(&rt, poster, taker) == 0);
+    Ok(())
+}
+
+#[test]
+fn a_shared_lane_takes_a_number_once(rt: HostRuntime) -> Result<(), Fail> {
     let lane = SharedLane::new(rt.alloc(), 2)?;
     assert!(rt; is_posted(&rt, &lane, 1) && is_posted(&rt, &lane, 2));
     assert!(rt; !is_posted(&rt, &lane, 3), "the lane is full");
@@ -54,18 +64,8 @@ fn a_full_lane_hands_back_and_gives_the_rest_in_order(rt: HostRuntime) -> Result
     Ok(())
 }
 
-#[test]
-fn what_is_left_is_counted(rt: HostRuntime) -> Result<(), Fail> {
-    let (lane, mut poster, mut taker) = Lane::new(rt.alloc(), 2)?;
-    assert!(rt; lane.post(&rt, &mut poster, Ticket { number: 1 }) == Ok(()));
-    assert!(rt; lane.take(&rt, &mut taker) == Some(Ticket { number: 1 }));
-    assert!(rt; lane.take(&rt, &mut taker) == None);
-    assert!(rt; lane.close(&rt, poster, taker) == 0);
-    Ok(())
-}
-
 /// Posts all tickets, each as soon as there is room, and stops the lane.
-fn post_all<R: Wait>(rt: &R, lane: &SharedLane<Ticket>) {
+fn post_all<R: Wait>(rt: &R, lane: &SharedLane<()>) {
     for number in 1..=TICKETS {
         for _ in rt.forever() {
             if is_posted(rt, lane, number) {
@@ -78,7 +78,7 @@ fn post_all<R: Wait>(rt: &R, lane: &SharedLane<Ticket>) {
 }
 
 /// Takes tickets until the lane is stopped. Returns the sum of their numbers.
-fn take_all<R: Wait>(rt: &R, lane: &SharedLane<Ticket>) -> u64 {
+fn take_all<R: Wait>(rt: &R, lane: &SharedLane<()>) -> u64 {
     let mut sum = 0u64;
     for _ in rt.forever() {
         match lane.next(rt) {
