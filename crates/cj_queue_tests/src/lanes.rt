@@ -40,9 +40,8 @@ fn a_full_lane_hands_back_and_gives_the_rest_in_order(rt: HostRuntime) -> Result
     assert!(rt; poster.last() == 2 && lane.post(&rt, &mut poster, ticket(3)) == Err(ticket(3)));
     assert!(rt; lane.take(&rt, &mut taker) == Some(ticket(1)));
     assert!(rt; poster.last() == 2 && lane.post(&rt, &mut poster, ticket(3)) == Ok(()));
-    for number in [2, 3] {
-        assert!(rt; lane.take(&rt, &mut taker) == Some(ticket(number)));
-    }
+    assert!(rt; lane.take(&rt, &mut taker) == Some(ticket(2)));
+    assert!(rt; lane.take(&rt, &mut taker) == Some(ticket(3)));
     assert!(rt; lane.take(&rt, &mut taker) == None);
     assert!(rt; lane.close(&rt, poster, taker) == 0);
     Ok(())
