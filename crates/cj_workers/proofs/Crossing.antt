@@ -1,6 +1,6 @@
 -- What of the lanes of workers may cross to another thread.
 use denote.RattleType.{RattleType}
-use denote.Param.Send.{IsSend, IsSync, sendable, struct_send, struct_sync}
+use denote.Param.Send.{IsSend, IsSync, sendable, recorded_send, recorded_sync, struct_send, struct_sync}
 use denote.Struct.Declared.{shape}
 use Rattle.std.proofs.Crossing as heap
 use Rattle.atomic_table.proofs.shared.Seat.TheSendSync as seat
@@ -34,8 +34,8 @@ report_send J n sj = search (entry_send, entry_sync, pass_send, heap.crosses, he
 reported_send : (J : RattleType) (n : naming.Ghosts J.Denot) → IsSend J → IsSend (reported.the_row J n)
 reported_send J n sj = search (report_send, heap.crosses, sendable) depth 60 fits 20000
 
-pub work_lane_send : (J : RattleType) (n : naming.Ghosts J.Denot) → IsSend J → IsSend (work_lane.the_field J n).row
-work_lane_send J n sj = struct_send (shape (work_lane.the_type J n)) (
+lane_field_send : (J : RattleType) (n : naming.Ghosts J.Denot) → IsSend J → IsSend (work_lane.the_field J n).row
+lane_field_send J n sj = struct_send (shape (work_lane.the_type J n)) (
   shared_field_send (job.the_row J n) (job_send J n sj),
   (
     search (heap.crosses, sendable) depth 20,
@@ -49,8 +49,8 @@ work_lane_send J n sj = struct_send (shape (work_lane.the_type J n)) (
   ),
 )
 
-pub work_lane_sync : (J : RattleType) (n : naming.Ghosts J.Denot) → IsSend J → IsSync (work_lane.the_field J n).row
-work_lane_sync J n sj = struct_sync (shape (work_lane.the_type J n)) (
+lane_field_sync : (J : RattleType) (n : naming.Ghosts J.Denot) → IsSend J → IsSync (work_lane.the_field J n).row
+lane_field_sync J n sj = struct_sync (shape (work_lane.the_type J n)) (
   shared_field_sync (job.the_row J n) (job_send J n sj),
   (
     search (heap.crosses, sendable) depth 20,
@@ -63,3 +63,9 @@ work_lane_sync J n sj = struct_sync (shape (work_lane.the_type J n)) (
     ),
   ),
 )
+
+pub work_lane_send : (J : RattleType) (n : naming.Ghosts J.Denot) → IsSend J → IsSend (work_lane.the_row J n)
+work_lane_send J n sj = recorded_send (work_lane.the_field J n).row _ _ (work_lane.the_type J n).to_one (lane_field_send J n sj)
+
+pub work_lane_sync : (J : RattleType) (n : naming.Ghosts J.Denot) → IsSend J → IsSync (work_lane.the_row J n)
+work_lane_sync J n sj = recorded_sync (work_lane.the_field J n).row _ _ (work_lane.the_type J n).to_one (lane_field_sync J n sj)
