@@ -6,13 +6,14 @@ ghost use Rattle.cj_model.specs.declared.limits.TheConstants.{BACKEND_LIMIT};
 ghost use Rattle.cj_cluster.specs.History.Legality.{IsLegal};
 ghost use Rattle.cj_place.specs.Layouts.{placement_of};
 ghost use Rattle.cj_board.specs.Seats.{front, pass_view};
-ghost use Rattle.cj_pass.specs.Passes.{HasNotedMore};
+ghost use Rattle.cj_pass.specs.Passes.{HasNotedMore, HasSeenMore};
 ghost use Rattle.cj_locked_cell.specs.Taking.{HasTallied};
-ghost use Rattle.cj_locked.specs.Writing.{IsScheduledIn};
+ghost use Rattle.cj_locked.specs.Writing.{EndsSince, HoldsEntry, IsScheduledIn};
 
 use crate::locks::Locks;
 use cj_backend::Backend;
-use cj_model::{Entry, has_bit, with_bit};
+use cj_locked::OpenEntry;
+use cj_model::{Entry, Reply, has_bit, with_bit};
 use cj_outside::Store;
 use cj_pass::{Naming, Pass};
 use cj_queue::Job;
@@ -33,10 +34,9 @@ impl<J: Naming, B: Backend, S: Store + Drop> Locks<J, B, S> {
             mut pass,
         } = job;
         let login = self.accounts.mapped(&entry.user, b);
-        let (backend, did) =
-            self.cells[b as usize]
-                .lock(rt)
-                .take(&self.board, &mut pass, number, &entry, login);
+        let (backend, did) = self.cells[b as usize]
+            .lock(rt)
+            .take(&self.board, &mut pass, number, &entry, login);
         Report::new(number, entry, backend, did, pass)
     }
 
@@ -154,7 +154,7 @@ impl<J: Naming, B: Backend, S: Store + Drop> Locks<J, B, S> {
 
     /// Has each enabled backend take the entry: the lowest one here, and meanwhile the others by their workers. Those that
     /// have none take it here, too.
-    pub(crate) fn take_beside<R: Wait>(
+    fn take_beside<R: Wait>(
         &self,
         rt: &R,
         pass: &mut Pass<J>,
@@ -172,5 +172,23 @@ impl<J: Naming, B: Backend, S: Store + Drop> Locks<J, B, S> {
         let mut tally = self.take_everywhere(rt, pass, n, e, enabled & !posted);
         self.hear_each(rt, pass, n, e, posted, &mut tally);
         tally
+    }
+
+    /// Has the cells take an entry that was scheduled, at the same time where backends have workers, and ends it.
+    pub(crate) fn carry_out_beside<R: Wait>(
+        &self,
+        rt: &R,
+        pass: &mut Pass<J>,
+        entry: OpenEntry<J, S>,
+        e: &Arc<Entry, Global>,
+    ) -> Reply
+        requires holds { HoldsEntry S.tells S.faults (placement_of J.layout) (front pass.old.seat) entry.number (arc_value e.now) entry.turn.share.amount entry.turn.log }
+        requires legal { IsLegal (front pass.old.seat) }
+        ensures seen { HasSeenMore (pass_view pass.old.seat) (pass_view pass.new.seat) }
+        ensures legal { IsLegal (front pass.new.seat) }
+        ensures ended { EndsSince B.tells (placement_of J.layout) (front pass.old.seat) entry.number (arc_value e.now) result (front pass.new.seat) }
+    {
+        let tally = self.take_beside(rt, pass, entry.number, e, entry.enabled);
+        self.end(rt, pass, entry, e, tally)
     }
 }

@@ -185,7 +185,7 @@ impl<J: Naming, B: Backend, S: Store + Drop> Locks<J, B, S> {
     }
 
     /// Ends the entry, gives the turn back, and wakes those who wait for it.
-    fn end<R: Wait>(
+    pub(crate) fn end<R: Wait>(
         &self,
         rt: &R,
         pass: &mut Pass<J>,
@@ -220,24 +220,6 @@ impl<J: Naming, B: Backend, S: Store + Drop> Locks<J, B, S> {
         ensures ended { EndsSince B.tells (placement_of J.layout) (front pass.old.seat) entry.number e.now result (front pass.new.seat) }
     {
         let tally = self.take_everywhere(rt, pass, entry.number, e, entry.enabled);
-        self.end(rt, pass, entry, e, tally)
-    }
-
-    /// Has the cells take an entry that was scheduled, at the same time where backends have workers, and ends it.
-    fn carry_out_beside<R: Wait>(
-        &self,
-        rt: &R,
-        pass: &mut Pass<J>,
-        entry: OpenEntry<J, S>,
-        e: &Arc<Entry, Global>,
-    ) -> Reply
-        requires holds { HoldsEntry S.tells S.faults (placement_of J.layout) (front pass.old.seat) entry.number (arc_value e.now) entry.turn.share.amount entry.turn.log }
-        requires legal { IsLegal (front pass.old.seat) }
-        ensures seen { HasSeenMore (pass_view pass.old.seat) (pass_view pass.new.seat) }
-        ensures legal { IsLegal (front pass.new.seat) }
-        ensures ended { EndsSince B.tells (placement_of J.layout) (front pass.old.seat) entry.number (arc_value e.now) result (front pass.new.seat) }
-    {
-        let tally = self.take_beside(rt, pass, entry.number, e, entry.enabled);
         self.end(rt, pass, entry, e, tally)
     }
 

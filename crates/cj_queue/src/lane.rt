@@ -35,7 +35,12 @@ impl<T: Drop> Lane<T> {
     /// Posts a job behind all others. Its number is above theirs.
     ///
     /// The job is handed back only where the lane was full at a moment of the call.
-    pub fn post<R: Wait>(&self, rt: &R, poster: &mut Poster<T>, job: Numbered<T>) -> Result<(), Numbered<T>>
+    pub fn post<R: Wait>(
+        &self,
+        rt: &R,
+        poster: &mut Poster<T>,
+        job: Numbered<T>,
+    ) -> Result<(), Numbered<T>>
         requires end { IsPosterOf self.now poster.old }
         requires rises { poster.old.last < job.number }
         ensures end { IsPosterOf self.now poster.new }

@@ -39,11 +39,7 @@ fn start_worker<
     B: Backend + Send + Drop + 'static,
     S: Store + Send + Drop + 'static,
     R: Threads + Wait + Copy + Drop + Send + 'static,
->(
-    rt: &R,
-    spawner: &mut Spawner,
-    worker: Worker<J, B, S>,
-) -> bool
+>(rt: &R, spawner: &mut Spawner, worker: Worker<J, B, S>) -> bool
     ensures counted { CountsFault (result ≡ false) spawner.old.refusals spawner.new.refusals }
 {
     worker.control.man(worker.b, true);
@@ -62,12 +58,7 @@ fn start_each<
     B: Backend + Send + Drop + 'static,
     S: Store + Send + Drop + 'static,
     R: Threads + Wait + Copy + Drop + Send + 'static,
->(
-    rt: &R,
-    spawner: &mut Spawner,
-    mut shares: Vec<Arc<Control<J, B, S>, Global>>,
-    count: u8,
-) -> u32
+>(rt: &R, spawner: &mut Spawner, mut shares: Vec<Arc<Control<J, B, S>, Global>>, count: u8) -> u32
     requires as_many { length shares.items ≡ count }
     requires all { count ≡ length J.layout.names }
     requires few { count ≤ BACKEND_LIMIT }

@@ -54,13 +54,7 @@ impl<J: Naming> Report<J> {
     }
 
     /// Adds the report to the tally of its entry, which the pass has seen. The pass has noted the report then.
-    pub fn count(
-        self,
-        board: &NamedBoard<J>,
-        pass: &mut Pass<J>,
-        e: &Entry,
-        tally: &mut Tally,
-    )
+    pub fn count(self, board: &NamedBoard<J>, pass: &mut Pass<J>, e: &Entry, tally: &mut Tally)
         requires entry { slice_get (log (front pass.old.seat)) (self.number - 1) ≡ Some e.now }
         requires tallied { HasTallied J.tells (placement_of J.layout) self.number e.now (pass_view pass.old.seat) tally.old }
         ensures more { HasNotedMore (pass_view pass.old.seat) (pass_view pass.new.seat) }
