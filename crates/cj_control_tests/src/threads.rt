@@ -176,7 +176,13 @@ fn an_entry_is_carried_out_by_both_backends_at_once(rt: HostRuntime) -> Result<(
         sent: &[Query("SELECT k FROM t WHERE k = 1")],
         replies: &[K_1],
     };
-    let steps = [Step::WithWorker(written), Step::Session(read)];
+    let shown = b"b0 enabled position=2 asks=1 begun=0 faults=0 login=l0\n\
+b1 enabled position=2 asks=0 begun=0 faults=0 login=l1\n";
+    let steps = [
+        Step::WithWorker(written),
+        Step::Session(read),
+        Step::ShowBackends(shown),
+    ];
     let _backends = play(&rt, alloc, one, other, Vec::new(alloc), &steps)?;
     assert!(rt; missed.load(Ordering::SeqCst) == 0);
     Ok(())
