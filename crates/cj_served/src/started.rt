@@ -93,7 +93,7 @@ fn serve_at<
         return Err(NoMemory);
     };
     let control = Arc::new(alloc, control)?;
-    let mut crew = Spawner::new(alloc, BACKEND_LIMIT);
+    let mut crew = Spawner::new(alloc, BACKEND_LIMIT as usize);
     // A backend that has no worker is served by who writes.
     let _ = start_workers(rt, alloc, &control, &mut crew);
     let ends = chat_and_serve(
