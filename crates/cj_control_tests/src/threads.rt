@@ -105,8 +105,8 @@ impl Gate for WriteMeeting {
     }
 }
 
-/// A meeting of who raises the first flag and looks for the other.
-fn meeting(mine: &Flag, other: &Flag, missed: &Flag) -> Result<Meeting, Fail> {
+/// Makes a meeting of who raises the first flag and looks for the other.
+fn made(mine: &Flag, other: &Flag, missed: &Flag) -> Result<Meeting, Fail> {
     Ok(Meeting {
         mine: Arc::try_clone(mine)?,
         other: Arc::try_clone(other)?,
@@ -127,8 +127,8 @@ fn a_read_is_answered_while_another_is_asked(rt: HostRuntime) -> Result<(), Fail
     let left = Arc::new(alloc, AtomicU64::new(0))?;
     let right = Arc::new(alloc, AtomicU64::new(0))?;
     let missed = Arc::new(alloc, AtomicU64::new(0))?;
-    let one = gated(alloc, meeting(&left, &right, &missed)?);
-    let other = gated(alloc, meeting(&right, &left, &missed)?);
+    let one = gated(alloc, made(&left, &right, &missed)?);
+    let other = gated(alloc, made(&right, &left, &missed)?);
     let first = Talk {
         sent: &[Query(CREATE), Query("INSERT INTO t VALUES (1), (2)")],
         replies: &[DONE_0, DONE_2],
@@ -154,8 +154,8 @@ fn an_entry_is_carried_out_by_both_backends_at_once(rt: HostRuntime) -> Result<(
     let left = Arc::new(alloc, AtomicU64::new(0))?;
     let right = Arc::new(alloc, AtomicU64::new(0))?;
     let missed = Arc::new(alloc, AtomicU64::new(0))?;
-    let meeting_of_one = meeting(&left, &right, &missed)?;
-    let meeting_of_other = meeting(&right, &left, &missed)?;
+    let meeting_of_one = made(&left, &right, &missed)?;
+    let meeting_of_other = made(&right, &left, &missed)?;
     let one = gated(
         alloc,
         WriteMeeting {
