@@ -1,7 +1,7 @@
 -- What of a cluster that threads share may cross to another thread. Types are taken apart down to those for which one
 -- search finds it, since a search over the whole cluster passes its limits.
 use denote.RattleType.{RattleType}
-use denote.Param.Send.{IsSend, IsSync, sendable, view_send, recorded_send, struct_send}
+use denote.Param.Send.{IsSend, IsSync, sendable, view_send, recorded_send, struct_send, struct_sync}
 use denote.Struct.Declared.{shape}
 use Rattle.std.proofs.Crossing as heap
 use Rattle.std.proofs.MapsCrossing as maps
@@ -22,6 +22,7 @@ use Rattle.cj_pass.specs.contracts.pass.NamedBoard as named_board
 use Rattle.cj_locked.specs.contracts.book.LockedBook as locked_book
 use Rattle.cj_locked.specs.contracts.book.LockedBook.TheInside as locked_book_inside
 use Rattle.cj_locked_cell.specs.contracts.cell.LockedCell as locked_cell
+use Rattle.cj_workers.proofs.Crossing.{work_lane_send, work_lane_sync}
 use Rattle.cj_locks.specs.contracts.locks.Locks as locks
 use Rattle.cj_control.specs.contracts.control.Control as control
 use Rattle.cj_book.specs.contracts.book_log.BookLog as book_log
@@ -181,13 +182,73 @@ pub pass_send : (J : RattleType) (n : naming.Ghosts J.Denot) → IsSend J → Is
 pass_send J n sj = search (event_send, seat.the_send, sendable) depth 40
 
 locks_sync : (J B S : RattleType) (n : naming.Ghosts J.Denot) (b : backend.Ghosts B.Denot) (s : store.Ghosts S.Denot) → IsSend J → IsSync J → IsSend B → IsSend S → IsSync (locks.the_field J B S n b s).row
-locks_sync J B S n b s sj yj sb ss = search (named_board_sync, locked_book_send, locked_cell_send, heap.crosses, sendable) depth 60 fits 20000
+locks_sync J B S n b s sj yj sb ss = struct_sync (shape (locks.the_type J B S n b s)) (
+  search (heap.crosses, sendable) depth 20,
+  (
+    named_board_sync J n yj,
+    (
+      search (locked_book_send, heap.crosses, sendable) depth 60 fits 20000,
+      (
+        search (heap.crosses, sendable) depth 20,
+        (
+          search (heap.crosses, sendable) depth 20,
+          (
+            search (locked_cell_send, heap.crosses, sendable) depth 60 fits 20000,
+            (
+              search (work_lane_sync, heap.crosses, sendable) depth 60 fits 20000,
+              (
+                search (heap.crosses, sendable) depth 60 fits 20000,
+                (
+                  search (heap.crosses, sendable) depth 60 fits 20000,
+                  (
+                    search (heap.crosses, sendable) depth 20,
+                    tt,
+                  ),
+                ),
+              ),
+            ),
+          ),
+        ),
+      ),
+    ),
+  ),
+)
 
 pub control_sync : (J B S : RattleType) (n : naming.Ghosts J.Denot) (b : backend.Ghosts B.Denot) (s : store.Ghosts S.Denot) → IsSend J → IsSync J → IsSend B → IsSend S → IsSync (control.the_row J B S n b s)
 control_sync J B S n b s sj yj sb ss = search (locks_sync, locked_cell_send, heap.crosses, sendable) depth 60 fits 20000
 
 locks_send : (J B S : RattleType) (n : naming.Ghosts J.Denot) (b : backend.Ghosts B.Denot) (s : store.Ghosts S.Denot) → IsSend J → IsSend B → IsSend S → IsSend (locks.the_field J B S n b s).row
-locks_send J B S n b s sj sb ss = search (named_board_send, locked_book_send, locked_cell_send, heap.crosses, sendable) depth 60 fits 20000
+locks_send J B S n b s sj sb ss = struct_send (shape (locks.the_type J B S n b s)) (
+  search (heap.crosses, sendable) depth 20,
+  (
+    named_board_send J n sj,
+    (
+      search (locked_book_send, heap.crosses, sendable) depth 60 fits 20000,
+      (
+        search (heap.crosses, sendable) depth 20,
+        (
+          search (heap.crosses, sendable) depth 20,
+          (
+            search (locked_cell_send, heap.crosses, sendable) depth 60 fits 20000,
+            (
+              search (work_lane_send, heap.crosses, sendable) depth 60 fits 20000,
+              (
+                search (heap.crosses, sendable) depth 60 fits 20000,
+                (
+                  search (heap.crosses, sendable) depth 60 fits 20000,
+                  (
+                    search (heap.crosses, sendable) depth 20,
+                    tt,
+                  ),
+                ),
+              ),
+            ),
+          ),
+        ),
+      ),
+    ),
+  ),
+)
 
 pub control_send : (J B S : RattleType) (n : naming.Ghosts J.Denot) (b : backend.Ghosts B.Denot) (s : store.Ghosts S.Denot) → IsSend J → IsSend B → IsSend S → IsSend (control.the_row J B S n b s)
 control_send J B S n b s sj sb ss = search (locks_send, locked_cell_send, heap.crosses, sendable) depth 60 fits 20000

@@ -1,6 +1,7 @@
 //! One session of a cluster that threads share, as a desk.
 
 ghost use Rattle.std.specs.Prelude.{◌≡◌, ℕ, ◌+◌, ◌<◌, ◌≤◌, length, IfOk, IsErrOf};
+ghost use Rattle.std.specs.Arc.{arc_value};
 ghost use mathlib.Core.List.{IsPrefix};
 ghost use Rattle.cj_model.specs.declared.answer.Reply.TheVariants as reply;
 ghost use Rattle.cj_model.specs.declared.codes.TheConstants.{NO_MEMORY};
@@ -23,7 +24,7 @@ use cj_model::{Act, Duplicate, Entry, NO_MEMORY, NoMemory, Refusal, Reply, Selec
 use cj_outside::Store;
 use cj_pass::{Naming, Pass};
 use std::alloc::Global;
-use std::sync::Wait;
+use std::sync::{Arc, Wait};
 use thiserror::Error;
 
 /// A session, which has its own pass.
@@ -52,7 +53,7 @@ pub enum CallerError {
     NoMemory,
 }
 
-/// Makes an entry, and a copy of it.
+/// Makes an entry, and a copy of it that threads may share.
 fn twice(
     alloc: Global,
     session: u64,
@@ -60,9 +61,9 @@ fn twice(
     user: &Text,
     tx: u64,
     act: Act,
-) -> Result<(Entry, Entry), NoMemory>
+) -> Result<(Entry, Arc<Entry, Global>), NoMemory>
     ensures entry { IfOk result (λ made. made.0 ≡ record { session = session; seq = seq; tx = tx; user = user.now; act = act }) }
-    ensures copy { IfOk result (λ made. made.1 ≡ made.0) }
+    ensures copy { IfOk result (λ made. arc_value made.1 ≡ made.0) }
 {
     let entry = Entry {
         session,
@@ -71,7 +72,7 @@ fn twice(
         user: user.copy(alloc)?,
         act,
     };
-    let copy = entry.copy(alloc)?;
+    let copy = Arc::new(alloc, entry.copy(alloc)?)?;
     Ok((entry, copy))
 }
 

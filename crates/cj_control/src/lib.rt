@@ -6,6 +6,7 @@
 //! call of the administrator has its event in what the pass sees then, or names why not. The log is shown as of that
 //! history, and each backend as enabled exactly if it is so there.
 //! No lock is held while another is taken. No lock that a read needs is held over an append, a print or a query.
+//! A thread may do the work of a backend's worker (`Control::work`); then entries are carried out at the same time.
 //! To change: `administration.rt`, `audit.rt` and `show.rt` have what the administrator may do, `start.rt` how it
 //! begins and ends. To read: `specs/Callers`, `specs/Administration`, `specs/Showing`. Proofs begin in
 //! `proofs/Callers`.
@@ -18,6 +19,7 @@ mod control;
 mod restore;
 mod show;
 mod start;
+mod workers;
 
 pub use administration::AdminError;
 pub use caller::{Caller, CallerError};

@@ -24,17 +24,30 @@ use cj_pass::{NamedBoard, Naming, Pass};
 use cj_place::Placement;
 use cj_replica::Cell;
 use cj_state::Shared;
+use cj_workers::WorkLane;
 use std::alloc::Global;
 use std::sync::ledger::Blank;
 use std::sync::{Condvar, Mutex};
 
-/// All memory that a start takes: a copy of the placement, and empty lists with room for the locks of the cells, and
-/// for the cells.
+/// All memory that a start takes: a copy of the placement, the lanes of the backends' workers, and empty lists with room
+/// for the locks of the cells, and for the cells.
 #[derive(Drop)]
 struct Room<J: Naming, B: Backend> {
     placement: Placement,
+    lanes: Vec<WorkLane<J>>,
     locks: Vec<Mutex<LockedCell<J, B>>>,
     unlocked: Vec<LockedCell<J, B>>,
+}
+
+/// Makes so many lanes, none of which has a worker.
+fn lanes<J: Naming>(alloc: Global, count: usize) -> Result<Vec<WorkLane<J>>, NoMemory>
+    ensures { IfOk result (λ lanes. length lanes.items ≡ count) }
+{
+    let mut lanes = Vec::with_capacity(alloc, count)?;
+    for _ in 0..count {
+        lanes.push_reserved(WorkLane::new(alloc)?);
+    }
+    Ok(lanes)
 }
 
 /// Takes the memory of a start with so many cells.
@@ -44,11 +57,13 @@ fn reserve<J: Naming, B: Backend + Drop>(
     cells: usize,
 ) -> Result<Room<J, B>, NoMemory>
     ensures placement { IfOk result (λ room. room.placement ≡ placement.now) }
+    ensures lanes { IfOk result (λ room. length room.lanes.items ≡ cells) }
     ensures empty { IfOk result (λ room. (length room.locks.items ≡ 0) × (length room.unlocked.items ≡ 0)) }
     ensures room { IfOk result (λ room. (cells ≤ vec_capacity room.locks) × (cells ≤ vec_capacity room.unlocked)) }
 {
     Ok(Room {
         placement: placement.copy(alloc)?,
+        lanes: lanes(alloc, cells)?,
         locks: Vec::with_capacity(alloc, cells)?,
         unlocked: Vec::with_capacity(alloc, cells)?,
     })
@@ -169,6 +184,7 @@ impl<J: Naming, B: Backend + Drop, S: Store + Drop> Control<J, B, S> {
             turn_back: Condvar::new(),
             settled: Condvar::new(),
             cells: locked(cells, room.locks),
+            lanes: room.lanes,
             placement: room.placement,
             accounts,
         };

@@ -26,6 +26,8 @@ pub enum Step<'a> {
     Session(Talk<'a>),
     /// Two sessions are served, in a thread each.
     Both(Talk<'a>, Talk<'a>),
+    /// A session is served while a thread does the work of backend 1's worker.
+    WithWorker(Talk<'a>),
     /// So many sessions are open at once, the first of which has this number. All are left.
     Many(u64, u64),
     /// A session begins the transaction of this number, which is no orphan before the session is left.
@@ -93,6 +95,32 @@ fn serve_both<J: Naming + Send + Sync, B: Backend + Drop + Send, R: Threads + Wa
     control.rejoin(pass, other);
     first?;
     second
+}
+
+/// Serves a session while a thread does the work of backend 1's worker.
+fn serve_with_worker<
+    J: Naming + Send + Sync,
+    B: Backend + Drop + Send,
+    R: Threads + Wait + Abort + Sync,
+>(
+    rt: &R,
+    alloc: Global,
+    control: &Control<J, B, MemStore>,
+    pass: &mut Pass<J>,
+    talk: &Talk<'_>,
+) -> Result<(), NoMemory> {
+    assert!(rt; 1 < control.placement().count());
+    control.man(1, true);
+    let (served, ()) = thread::join(
+        rt,
+        || {
+            let served = serve(rt, alloc, control, pass, talk);
+            control.stop_workers();
+            served
+        },
+        || control.work(rt, 1),
+    );
+    served
 }
 
 /// Opens so many sessions, whose numbers go up from the first.
@@ -195,6 +223,7 @@ pub fn take<J: Naming + Send + Sync, B: Backend + Drop + Send, R: Threads + Wait
     match step {
         Step::Session(talk) => serve(rt, alloc, control, pass, talk)?,
         Step::Both(one, two) => serve_both(rt, alloc, control, pass, one, two)?,
+        Step::WithWorker(talk) => serve_with_worker(rt, alloc, control, pass, talk)?,
         Step::Many(count, first) => {
             let callers = open_many(rt, alloc, control, pass, *count, *first)?;
             leave_all(rt, control, pass, callers);

@@ -1,6 +1,6 @@
-//! Sessions in two threads: each reads what it wrote, and reads are answered at the same time.
+//! Sessions in two threads: each reads what it wrote, reads are answered at the same time, and so are an entry's backends.
 
-ghost use Rattle.std.specs.Prelude.{◌≡◌, IfOk};
+ghost use Rattle.std.specs.Prelude.{◌≡◌};
 ghost use Rattle.cj_mem.specs.MemoryBackends.{fresh_state};
 
 use crate::clusters::play;
@@ -91,21 +91,34 @@ impl Gate for Meeting {
     }
 }
 
-/// A backend whose reads meet those of another.
-fn meets(
-    alloc: Global,
-    mine: &Flag,
-    other: &Flag,
-    missed: &Flag,
-) -> Result<Gated<MemBackend, Meeting>, Fail>
-    ensures { IfOk result (λ backend. backend.inner ≡ fresh_state) }
-{
-    let gate = Meeting {
+/// A gate at which writes meet, and reads do not.
+#[derive(Drop)]
+struct WriteMeeting {
+    meeting: Meeting,
+}
+
+impl Gate for WriteMeeting {
+    fn pass(&mut self) {}
+
+    fn pass_write(&mut self) {
+        self.meeting.pass();
+    }
+}
+
+/// Makes a meeting of who raises the first flag and looks for the other.
+fn made(mine: &Flag, other: &Flag, missed: &Flag) -> Result<Meeting, Fail> {
+    Ok(Meeting {
         mine: Arc::try_clone(mine)?,
         other: Arc::try_clone(other)?,
         missed: Arc::try_clone(missed)?,
-    };
-    Ok(Gated::new(MemBackend::new(alloc), gate))
+    })
+}
+
+/// A backend with a gate.
+fn gated<G: Gate>(alloc: Global, gate: G) -> Gated<MemBackend, G>
+    ensures { result.inner ≡ fresh_state }
+{
+    Gated::new(MemBackend::new(alloc), gate)
 }
 
 #[test]
@@ -114,8 +127,8 @@ fn a_read_is_answered_while_another_is_asked(rt: HostRuntime) -> Result<(), Fail
     let left = Arc::new(alloc, AtomicU64::new(0))?;
     let right = Arc::new(alloc, AtomicU64::new(0))?;
     let missed = Arc::new(alloc, AtomicU64::new(0))?;
-    let one = meets(alloc, &left, &right, &missed)?;
-    let other = meets(alloc, &right, &left, &missed)?;
+    let one = gated(alloc, made(&left, &right, &missed)?);
+    let other = gated(alloc, made(&right, &left, &missed)?);
     let first = Talk {
         sent: &[Query(CREATE), Query("INSERT INTO t VALUES (1), (2)")],
         replies: &[DONE_0, DONE_2],
@@ -129,6 +142,47 @@ fn a_read_is_answered_while_another_is_asked(rt: HostRuntime) -> Result<(), Fail
         replies: &[K_2],
     };
     let steps = [Step::Session(first), Step::Both(of_one, of_two)];
+    let _backends = play(&rt, alloc, one, other, Vec::new(alloc), &steps)?;
+    assert!(rt; missed.load(Ordering::SeqCst) == 0);
+    Ok(())
+}
+
+/// Backend 0 carries the INSERT out in the session's thread, and backend 1 in its worker's.
+#[test]
+fn an_entry_is_carried_out_by_both_backends_at_once(rt: HostRuntime) -> Result<(), Fail> {
+    let alloc = rt.alloc();
+    let left = Arc::new(alloc, AtomicU64::new(0))?;
+    let right = Arc::new(alloc, AtomicU64::new(0))?;
+    let missed = Arc::new(alloc, AtomicU64::new(0))?;
+    let meeting_of_one = made(&left, &right, &missed)?;
+    let meeting_of_other = made(&right, &left, &missed)?;
+    let one = gated(
+        alloc,
+        WriteMeeting {
+            meeting: meeting_of_one,
+        },
+    );
+    let other = gated(
+        alloc,
+        WriteMeeting {
+            meeting: meeting_of_other,
+        },
+    );
+    let written = Talk {
+        sent: &[Query(CREATE), Query("INSERT INTO t VALUES (1)")],
+        replies: &[DONE_0, DONE_1],
+    };
+    let read = Talk {
+        sent: &[Query("SELECT k FROM t WHERE k = 1")],
+        replies: &[K_1],
+    };
+    let shown = b"b0 enabled position=2 asks=1 begun=0 faults=0 login=l0\n\
+b1 enabled position=2 asks=0 begun=0 faults=0 login=l1\n";
+    let steps = [
+        Step::WithWorker(written),
+        Step::Session(read),
+        Step::ShowBackends(shown),
+    ];
     let _backends = play(&rt, alloc, one, other, Vec::new(alloc), &steps)?;
     assert!(rt; missed.load(Ordering::SeqCst) == 0);
     Ok(())

@@ -25,6 +25,7 @@ use cj_outside::Store;
 use cj_pass::{NamedBoard, Naming, Pass};
 use cj_place::Placement;
 use cj_replica::CellError;
+use cj_workers::WorkLane;
 use std::alloc::Global;
 use std::sync::{Condvar, Mutex, MutexGuard, Wait};
 
@@ -43,6 +44,8 @@ pub struct Locks<J: Naming, B: Backend, S: Store> {
     pub settled: Condvar,
     /// By the numbers of their backends.
     pub cells: Vec<Mutex<LockedCell<J, B>>>,
+    /// The ways to the workers of the backends, by their numbers.
+    pub lanes: Vec<WorkLane<J>>,
     pub placement: Placement,
     pub accounts: Accounts,
     /// Whether the result cache keeps answers.
@@ -51,6 +54,7 @@ pub struct Locks<J: Naming, B: Backend, S: Store> {
     ghost registered: { accounts.backends ≡ length placement.names },
     ghost told: { J.tells ≡ B.tells },
     ghost housed: { length cells.items ≡ length placement.names },
+    ghost lined: { length lanes.items ≡ length placement.names },
 }
 
 impl<J: Naming, B: Backend, S: Store + Drop> Locks<J, B, S> {

@@ -1,6 +1,7 @@
 //! The way of an entry: the turn, the book, the log, the book again, each cell, and the book once more.
 
 ghost use Rattle.std.specs.Prelude.{◌≡◌, ℕ, ◌<◌, ◌≤◌, length, IfErr, IfOk};
+ghost use Rattle.std.specs.Arc.{arc_value};
 ghost use Rattle.cj_model.specs.declared.limits.TheConstants.{BACKEND_LIMIT};
 ghost use Rattle.cj_model.specs.Cluster.Masks.{in_mask};
 ghost use Rattle.cj_cluster.specs.History.Histories.{is_enabled, log};
@@ -22,7 +23,8 @@ use cj_model::{Entry, HISTORY_FULL, LOG_FAULT, NO_BACKEND, NO_MEMORY, Refusal, R
 use cj_outside::Store;
 use cj_pass::{Naming, Pass};
 use cj_tally::Tally;
-use std::sync::Wait;
+use std::alloc::Global;
+use std::sync::{Arc, Wait};
 
 /// Returns what the client reads if the book refuses an entry.
 fn refusal_for(error: BookError) -> Refusal
@@ -160,8 +162,8 @@ impl<J: Naming, B: Backend, S: Store + Drop> Locks<J, B, S> {
         tally.took(number, did);
     }
 
-    /// Has each enabled backend take the entry, one after another.
-    fn take_everywhere<R: Wait>(
+    /// Has each backend of the mask take the entry, one after another.
+    pub(crate) fn take_everywhere<R: Wait>(
         &self,
         rt: &R,
         pass: &mut Pass<J>,
@@ -183,7 +185,7 @@ impl<J: Naming, B: Backend, S: Store + Drop> Locks<J, B, S> {
     }
 
     /// Ends the entry, gives the turn back, and wakes those who wait for it.
-    fn end<R: Wait>(
+    pub(crate) fn end<R: Wait>(
         &self,
         rt: &R,
         pass: &mut Pass<J>,
@@ -203,7 +205,7 @@ impl<J: Naming, B: Backend, S: Store + Drop> Locks<J, B, S> {
         reply
     }
 
-    /// Has the cells take an entry that was scheduled, and ends it.
+    /// Has the cells take an entry that was scheduled, one after another, and ends it.
     pub fn carry_out<R: Wait>(
         &self,
         rt: &R,
@@ -223,8 +225,14 @@ impl<J: Naming, B: Backend, S: Store + Drop> Locks<J, B, S> {
 
     /// Writes an entry of the session whose own pass this is: schedules it, has each enabled backend take it, and ends
     /// it. Returns its number, 0 if nothing was scheduled. `copy` is the entry too, since the book keeps the other.
-    pub fn write<R: Wait>(&self, rt: &R, pass: &mut Pass<J>, e: Entry, copy: &Entry) -> (u64, Reply)
-        requires copy { copy.now ≡ e }
+    pub fn write<R: Wait>(
+        &self,
+        rt: &R,
+        pass: &mut Pass<J>,
+        e: Entry,
+        copy: &Arc<Entry, Global>,
+    ) -> (u64, Reply)
+        requires copy { arc_value copy.now ≡ e }
         requires own { ((pass_view pass.old.seat).own_session ≡ e.session) × (0 < e.session) }
         requires counted { event_count_of e.session (front pass.old.seat) ≡ (pass_view pass.old.seat).count }
         requires session { IsSessionEntry (log (front pass.old.seat)) e }
@@ -237,7 +245,7 @@ impl<J: Naming, B: Backend, S: Store + Drop> Locks<J, B, S> {
         match self.schedule(rt, pass, e) {
             Ok(entry) => {
                 let number = entry.number;
-                let reply = self.carry_out(rt, pass, entry, copy);
+                let reply = self.carry_out_beside(rt, pass, entry, copy);
                 self.board.check_count(pass);
                 (number, reply)
             }

@@ -1,4 +1,4 @@
--- What the thread of a connection is handed may go to it.
+-- What the thread of a connection and that of a worker is handed may go to it.
 use denote.RattleType.{RattleType}
 use denote.Param.Send.{IsSend, IsSync, sendable, recorded_send, struct_send}
 use denote.Struct.Declared.{shape}
@@ -11,6 +11,7 @@ use Rattle.cj_pass.specs.contracts.pass.Pass as pass
 use Rattle.cj_control.specs.contracts.control.Control as control
 use Rattle.cj_control.proofs.Crossing.{control_send, control_sync, event_send}
 use Rattle.cj_serve.specs.contracts.connection.Connection as connection
+use Rattle.cj_serve.specs.contracts.crew.Worker as worker
 
 pass_send : (J : RattleType) (n : naming.Ghosts J.Denot) → IsSend J → IsSend (pass.the_field J n).row
 pass_send J n sj = search (event_send, seat.the_send, sendable) depth 40
@@ -38,5 +39,15 @@ connection_send J B S C I O n b s sj yj sb ss sc yc si so =
             ),
           ),
         ),
+      ),
+    ))
+
+pub worker_send : (J B S : RattleType) (n : naming.Ghosts J.Denot) (b : backend.Ghosts B.Denot) (s : store.Ghosts S.Denot) → IsSend J → IsSync J → IsSend B → IsSend S → IsSend (worker.the_row J B S n b s)
+worker_send J B S n b s sj yj sb ss =
+    recorded_send (worker.the_field J B S n b s).row _ _ (worker.the_type J B S n b s).to_one (struct_send (shape (worker.the_type J B S n b s)) (
+      heap.Arc-send (control.the_row J B S n b s) (control_send J B S n b s sj sb ss) (control_sync J B S n b s sj yj sb ss),
+      (
+        search sendable,
+        tt,
       ),
     ))

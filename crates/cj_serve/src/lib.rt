@@ -6,10 +6,14 @@
 //! `PortFault` exactly if it counted a fault. The pass of the accepting thread forgets nothing.
 //! Not promised: that each connection gets its session. No proof follows a job into its thread; tests show it
 //! (`cj_serve_tests`). A session that is served keeps what `serve_session` promises of it (`cj_session`).
-//! To change: `connection.rt` has one connection, `serving.rt` the accepting. There are no definitions.
+//! `start_workers` gives each backend a thread that carries out its entries; a backend without one was counted
+//! (`CountsMissing`). `serve` has them end after its last accept.
+//! To change: `connection.rt` has one connection, `serving.rt` the accepting, `crew.rt` the workers.
 #![tactic(auto)]
 
 mod connection;
+mod crew;
 mod serving;
 
+pub use crew::start_workers;
 pub use serving::{ServeEnd, serve};

@@ -125,7 +125,7 @@ impl<
 /// Then it waits until all have ended.
 ///
 /// A connection for which there is no thread is served by the accepting thread, which accepts nobody until that
-/// connection ends. Each session has its own caller, its own pass, and random numbers of the seed with its number added.
+/// connection ends. After the last connection came, the workers of the backends end. Each session has its own caller, its own pass, and random numbers of the seed with its number added.
 /// A client that gets no session is sent a refusal: 46 with the greatest session number if none is left, and 43 if
 /// memory ran out.
 ///
@@ -165,6 +165,7 @@ pub fn serve<
     } else {
         service.accept_some(rt, pass, port, spawner, connections)
     };
+    control.stop_workers();
     spawner.join_all(rt);
     end
 }

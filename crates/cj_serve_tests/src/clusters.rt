@@ -18,7 +18,7 @@ use cj_model::{Account, BACKEND_LIMIT, Level, ListOf, Name, NoMemory, Policy, Te
 use cj_outside::{FixedClock, MemStore};
 use cj_place::Placement;
 use cj_port::{Port, Spawner};
-use cj_serve::{ServeEnd, serve};
+use cj_serve::{ServeEnd, serve, start_workers};
 use std::alloc::Global;
 use std::marker::Brand;
 use std::process::Abort;
@@ -148,7 +148,10 @@ fn serve_at<
     let control = Arc::new(alloc, control)?;
     let clock = Arc::new(alloc, FixedClock::new(0))?;
     let mut spawner = Spawner::new(alloc, threads);
-    Ok(serve(
+    // With no thread for a connection there is none for a worker.
+    let mut crew = Spawner::new(alloc, threads);
+    start_workers(rt, alloc, &control, &mut crew)?;
+    let end = serve(
         rt,
         alloc,
         &control,
@@ -158,7 +161,9 @@ fn serve_at<
         &clock,
         SEED,
         connections,
-    ))
+    );
+    crew.join_all(rt);
+    Ok(end)
 }
 
 /// Serves so many connections of the port at a new cluster, in at most so many threads. Its log begins with these bytes.

@@ -26,11 +26,11 @@ use cj_book::StartError;
 use cj_console::ConsoleEnd;
 use cj_control::Control;
 use cj_core::{Backends, Parts, Shared, World};
-use cj_model::NoMemory;
+use cj_model::{BACKEND_LIMIT, NoMemory};
 use cj_outside::{Clock, Sink, Source, Store};
 use cj_pass::Naming;
 use cj_port::{Port, Spawner};
-use cj_serve::ServeEnd;
+use cj_serve::{ServeEnd, start_workers};
 use cj_shelf::{Shelf, ShelfError};
 use std::alloc::Global;
 use std::marker::Brand;
@@ -93,7 +93,10 @@ fn serve_at<
         return Err(NoMemory);
     };
     let control = Arc::new(alloc, control)?;
-    Ok(chat_and_serve(
+    let mut crew = Spawner::new(alloc, BACKEND_LIMIT as usize);
+    // A backend that has no worker is served by who writes.
+    let _ = start_workers(rt, alloc, &control, &mut crew);
+    let ends = chat_and_serve(
         rt,
         alloc,
         &control,
@@ -106,7 +109,9 @@ fn serve_at<
         spawner,
         seed,
         connections,
-    ))
+    );
+    crew.join_all(rt);
+    Ok(ends)
 }
 
 /// Starts a world of these parts and backends from the log, opens the shelf of the dumps' store, and has a console chat on

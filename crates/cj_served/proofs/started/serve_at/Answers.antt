@@ -6,12 +6,12 @@ use Rattle.cj_console.specs.Answers.{AreRightDumps, Standing}
 use Rattle.cj_console.specs.Chats.{ChatsTo}
 use Rattle.cj_served.proofs.started.serve_at.Goals as goal
 
-pub chat_and_serve-requires-clause-dumps : goal.chat_and_serve-requires-clause-dumps
-chat_and_serve-requires-clause-dumps g c κs within = subst (λ (h : List Event). AreRightDumps g.B.Backend.tells h c.args.shelf.now.dumps) (sym c.in-Ok.ensures.seen) c.requires.dumps
+pub chat_and_serve-ends-requires-clause-dumps : goal.chat_and_serve-ends-requires-clause-dumps
+chat_and_serve-ends-requires-clause-dumps g c κs within = subst (λ (h : List Event). AreRightDumps g.B.Backend.tells h c.args.shelf.now.dumps) (sym c.in-Ok.ensures.seen) c.requires.dumps
 
 pub returns-clause-chats : goal.returns-clause-chats
 returns-clause-chats g c =
-    let chat = c.chat_and_serve in
+    let chat = c.chat_and_serve-ends in
     let before : Standing g.row.D.Denot = record { view = pass_view c.in-Ok.pass.seat; shelf = c.args.shelf.now } in
     let after : Standing g.row.D.Denot = record { view = pass_view chat.new.pass.seat; shelf = chat.new.shelf } in (
       before.view,
