@@ -359,13 +359,14 @@ class Console:
 class Serving:
     """A server that serves at a port of its own, and its console. It is killed at the end of a `with` at the latest."""
 
-    def __init__(self, program, conf):
-        self.program, self.conf, self.killed = program, conf, threading.Event()
+    def __init__(self, program, conf, **more):
+        """`more` is handed on to the start of the process."""
+        self.program, self.conf, self.more, self.killed = program, conf, more, threading.Event()
 
     def __enter__(self):
         for _ in range(3):
             self.port = free_port()
-            self.run = start([self.program, "serve", self.conf, f"127.0.0.1:{self.port}"])
+            self.run = start([self.program, "serve", self.conf, f"127.0.0.1:{self.port}"], **self.more)
             try:
                 if self.serves():
                     self.console = Console(self.run)
@@ -529,17 +530,23 @@ def join(clients):
             raise client.error
 
 
-def audited(serving, log):
-    """Looks by an audit whether both backends hold the same, and what the log says. No transaction is open."""
+def held_by_both(serving):
+    """The lines of an audit that say what a backend holds. Both hold the same."""
     lines = serving.console.lines("audit")
     middle = next(at for at, line in enumerate(lines) if line.startswith("b1 "))
     halves = [[line[3:] if line.startswith(f"b{b} ") else line for line in half] for b, half in enumerate((lines[:middle], lines[middle:]))]
     if halves[0] != halves[1]:
         raise Failed(f"the backends differ: {set(halves[0]) ^ set(halves[1])}")
-    rows, accounts = (rows_of(halves[0], name) for name in "wu")
+    return halves[0]
+
+
+def audited(serving, log):
+    """Looks by an audit whether both backends hold the same, and what the log says. No transaction is open."""
+    held = held_by_both(serving)
+    rows, accounts = (rows_of(held, name) for name in "wu")
     expect("the rows that the backends hold", rows, [f"{key},1" for key in sorted(log.rows)])
     expect("the accounts that the backends hold", accounts, [f"{account},{units}" for account, units in enumerate(log.accounts)])
-    expect("tables with an open transaction", [line for line in halves[0] if re.match(r"\w+ draft", line)], [])
+    expect("tables with an open transaction", [line for line in held if re.match(r"\w+ draft", line)], [])
 
 
 def rows_of(lines, name):
