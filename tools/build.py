@@ -121,6 +121,15 @@ def run_unproved(words, data, files):
 
 def load(folder):
     """Compiles bench/load.c into a folder, and returns the path."""
-    path = os.path.join(folder, "load")
-    subprocess.run([shutil.which("gcc") or "cc", "-O2", "-pthread", "-o", path, os.path.join(ROOT, "bench", "load.c")], check=True)
+    return compiled("load.c", os.path.join(folder, "load"), "-O2", "-pthread")
+
+
+def library(name, folder):
+    """Compiles a library of bench/ that LD_PRELOAD takes into a folder, and returns the path."""
+    return compiled(f"{name}.c", os.path.join(folder, f"{name}.so"), "-O2", "-shared", "-fPIC")
+
+
+def compiled(source, path, *flags):
+    """Compiles a file of bench/, and returns the path of what came of it."""
+    subprocess.run([shutil.which("gcc") or "cc", *flags, "-o", path, os.path.join(ROOT, "bench", source)], check=True)
     return path
