@@ -1,6 +1,8 @@
 /* A load of one kind of request over TCP, and an echo with a thread a connection to compare a server with.
  *
  * usage: load echo PORT REPLY_BYTES                       answers each frame with a frame of so many bytes
+ *        load store PORT REPLY_BYTES FILE BYTES           the same, once an entry of BYTES and then a byte of it are written to FILE, each with a sync;
+ *                                                         one thread at a time has the turn to write
  *        load ask PORT CLIENTS SECONDS READS WRITES KEYS  logs CLIENTS in; of each READS + WRITES clients READS read and WRITES write,
  *                                                         at random keys below KEYS; prints the reads and the writes a second
  *        load late PORT CLIENTS SECONDS PAUSE KEYS        logs CLIENTS in, which read, each so many microseconds after its last reply;
@@ -10,6 +12,7 @@
  *                                                         prints the microseconds of both: their mean, the variance of that, and the median
  * A frame is four bytes of length, and as many bytes. */
 #include <arpa/inet.h>
+#include <fcntl.h>
 #include <netinet/tcp.h>
 #include <pthread.h>
 #include <stdint.h>
@@ -26,6 +29,12 @@ static int port_number, reply_bytes, keys;
 static volatile int stopped;
 static int keeps_times;
 static useconds_t pause_between;
+/* The file of a store, none where it is below 0, and who may write to it. */
+static int store = -1, turn_taken;
+static off_t store_length;
+static size_t entry_bytes;
+static pthread_mutex_t turn_lock = PTHREAD_MUTEX_INITIALIZER;
+static pthread_cond_t turn_back = PTHREAD_COND_INITIALIZER;
 
 static void fail(const char *what)
 {
@@ -84,13 +93,33 @@ static double now(void)
 	return (double)moment.tv_sec + (double)moment.tv_nsec / 1e9;
 }
 
+/* Writes an entry and its gate behind what the file has, once no other thread does. */
+static int append(void)
+{
+	static const unsigned char entry[MOST];
+	off_t at = 0;
+	pthread_mutex_lock(&turn_lock);
+	while (turn_taken)
+		pthread_cond_wait(&turn_back, &turn_lock);
+	turn_taken = 1;
+	at = store_length;
+	pthread_mutex_unlock(&turn_lock);
+	int done = pwrite(store, entry, entry_bytes, at) == (ssize_t)entry_bytes && !fdatasync(store) && pwrite(store, "g", 1, at) == 1 && !fdatasync(store);
+	pthread_mutex_lock(&turn_lock);
+	store_length = at + (off_t)entry_bytes;
+	turn_taken = 0;
+	pthread_mutex_unlock(&turn_lock);
+	pthread_cond_signal(&turn_back);
+	return done;
+}
+
 static void *echo(void *given)
 {
 	int at = (int)(intptr_t)given;
 	unsigned char body[MOST], reply[MOST] = {0};
 	put_length(reply, (size_t)reply_bytes - 4);
 	reply[4] = 0x81;
-	while (take_frame(at, body) >= 0 && give(at, reply, (size_t)reply_bytes))
+	while (take_frame(at, body) >= 0 && (store < 0 || append()) && give(at, reply, (size_t)reply_bytes))
 		;
 	close(at);
 	return NULL;
@@ -293,6 +322,13 @@ int main(int count, char **words)
 	port_number = atoi(words[2]);
 	if (count == 4 && !strcmp(words[1], "echo")) {
 		reply_bytes = atoi(words[3]);
+		serve_echo();
+	} else if (count == 6 && !strcmp(words[1], "store")) {
+		reply_bytes = atoi(words[3]);
+		entry_bytes = (size_t)atoi(words[5]);
+		store = open(words[4], O_WRONLY | O_CREAT | O_TRUNC, 0600);
+		if (store < 0 || entry_bytes > MOST)
+			fail(words[4]);
 		serve_echo();
 	} else if (count == 8 && !strcmp(words[1], "ask")) {
 		keys = atoi(words[7]);
