@@ -78,3 +78,9 @@ def processor_seconds(words, data=b""):
     if done.returncode != 0:
         sys.exit(f"bench: {words[0]} ended with status {done.returncode}")
     return end.ru_utime + end.ru_stime - start.ru_utime - start.ru_stime
+
+
+def stolen_seconds():
+    """The seconds that the host of a virtual machine has taken from its processors so far, all together."""
+    with open("/proc/stat", encoding="utf-8") as lines:
+        return int(next(lines).split()[8]) / os.sysconf("SC_CLK_TCK")
