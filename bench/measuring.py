@@ -13,6 +13,8 @@ import frames
 
 # Files are in memory where the system has a folder for that, so that the disk plays no part.
 MEMORY = "/dev/shm" if os.path.isdir("/dev/shm") else None
+# A measure counts where the host of a virtual machine took at most this part of a processor meanwhile. So often is one made for each that is wanted.
+STOLEN, TRIES = 0.1, 5
 # The configuration of one backend.
 ONE_BACKEND = """level = "raidb1"
 cache = {cache}
@@ -84,3 +86,14 @@ def stolen_seconds():
     """The seconds that the host of a virtual machine has taken from its processors so far, all together."""
     with open("/proc/stat", encoding="utf-8") as lines:
         return int(next(lines).split()[8]) / os.sysconf("SC_CLK_TCK")
+
+
+def undisturbed(measure, count):
+    """So many results of a measure, during which the host took hardly any time from the processors. Where it never was so, all that were got."""
+    told, counted = [], []
+    while len(told) < TRIES * count and len(counted) < count:
+        begun, stolen = time.monotonic(), stolen_seconds()
+        told.append(measure())
+        if stolen_seconds() - stolen <= STOLEN * (time.monotonic() - begun):
+            counted.append(told[-1])
+    return counted or told

@@ -147,7 +147,8 @@ fn a_read_is_answered_while_another_is_asked(rt: HostRuntime) -> Result<(), Fail
     Ok(())
 }
 
-/// Backend 0 carries the INSERT out in the session's thread, and backend 1 in its worker's.
+/// Backend 0 carries the CREATE out in the session's thread, and backend 1 in its worker's. An INSERT of one row is left
+/// to the session's.
 #[test]
 fn an_entry_is_carried_out_by_both_backends_at_once(rt: HostRuntime) -> Result<(), Fail> {
     let alloc = rt.alloc();

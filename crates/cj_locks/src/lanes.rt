@@ -10,6 +10,7 @@ ghost use Rattle.cj_pass.specs.Passes.{HasNotedMore, HasSeenMore};
 ghost use Rattle.cj_locked_cell.specs.Taking.{HasTallied};
 ghost use Rattle.cj_locked.specs.Writing.{EndsSince, HoldsEntry, IsScheduledIn};
 
+use crate::brief::is_brief;
 use crate::locks::Locks;
 use cj_backend::Backend;
 use cj_locked::OpenEntry;
@@ -153,7 +154,7 @@ impl<J: Naming, B: Backend, S: Store + Drop> Locks<J, B, S> {
     }
 
     /// Has each enabled backend take the entry: the lowest one here, and meanwhile the others by their workers. Those that
-    /// have none take it here, too.
+    /// have none take it here, too, and each takes a brief entry here.
     fn take_beside<R: Wait>(
         &self,
         rt: &R,
@@ -167,7 +168,11 @@ impl<J: Naming, B: Backend, S: Store + Drop> Locks<J, B, S> {
         ensures more { HasNotedMore (pass_view pass.old.seat) (pass_view pass.new.seat) }
         ensures tallied { HasTallied B.tells (placement_of J.layout) n (arc_value e.now) (pass_view pass.new.seat) result }
     {
-        let others = enabled & enabled.wrapping_sub(1);
+        let others = if is_brief(&e.act) {
+            0
+        } else {
+            enabled & enabled.wrapping_sub(1)
+        };
         let posted = self.post_to_each(rt, pass, n, e, others);
         let mut tally = self.take_everywhere(rt, pass, n, e, enabled & !posted);
         self.hear_each(rt, pass, n, e, posted, &mut tally);

@@ -5,11 +5,13 @@
 //! Promised: `write` and `read` are turns of the session whose own pass they are given (`WritesTurn`, `Turn`).
 //! `begin_dump`, `load`, `replay` and `enable` come to what `specs/Dumping` and `specs/Restoring` say.
 //! No lock is held while another is taken. No lock that a read needs is held over an append, a print or a query.
-//! To change: `write.rt` has the way of an entry, `lanes.rt` that over the workers, `read.rt` that of a query. `dump.rt`, `restore.rt` and `replay.rt`
-//! have the way back of a lost backend. What else an administrator does is in `cj_control`.
+//! To change: `write.rt` has the way of an entry, `lanes.rt` that over the workers, `read.rt` that of a query.
+//! `brief.rt` says which entries go to no worker. `dump.rt`, `restore.rt` and `replay.rt` have the way back of a lost
+//! backend. What else an administrator does is in `cj_control`.
 //! To read: the files in `specs`. Proofs begin in the files of `proofs` with the same names.
 #![tactic(auto)]
 
+mod brief;
 mod dump;
 mod lanes;
 mod locks;
