@@ -1,0 +1,92 @@
+-- Where a key belongs among pairs in rising key.
+use Rattle.std.proofs.Common.{◌≡◌, ◌∙◌, ℕ, suc, ◌+◌, ◌<◌, ◌≤◌, true, List, [], ◌∷◌, ◌++◌, length, get_or, set, take, drop, refl, ap, sym, subst, arith, Ordering, Less, Equal, Greater, is_eq}
+use Rattle.std.specs.BTreeMap.{insert_entry, is_at}
+use Rattle.std.specs.Cmp.{IsTotalOrder}
+use Rattle.std.specs.List.{AllByRecursion}
+use Rattle.std.specs.Map.{lookup, remove_entry}
+use Rattle.std.specs.Ordering.{match_ordering}
+use Rattle.std.specs.declared.option.Option.{Option}
+use Rattle.std.specs.declared.option.Option.TheVariants.{None, Some}
+use Rattle.std.proofs.lemmas.Bool.{cond-true}
+use Rattle.std.proofs.lemmas.List.{append-nil, set-get_or, set_split, take-append-drop}
+use Rattle.cj_ptree.specs.Pairs as pair
+use Rattle.cj_ptree.proofs.OrderLaws.{each_both, greater_back}
+use Rattle.cj_ptree.proofs.ZoneLaws.{above_less, above_tied, below_less, below_tied, insert_between, lookup_between, remove_between, rise_back, rise_below}
+
+-- a list round the item at an index
+pub split_at : {X : Type 0} (xs : List X) (i : ℕ) (d : X) → i < length xs → xs ≡ take i xs ++ get_or xs i d ∷ drop (suc i) xs
+split_at xs i d h = sym (set-get_or xs i d) ∙ set_split xs i (get_or xs i d) h
+
+pub drop_at_index : {X : Type 0} (xs : List X) (i : ℕ) (d : X) → i < length xs → drop i xs ≡ get_or xs i d ∷ drop (suc i) xs
+drop_at_index [] i d h = absurd (omega arith)
+drop_at_index (x ∷ xs) 0 d h = refl
+drop_at_index (x ∷ xs) (suc i) d h = drop_at_index xs i d (omega arith)
+
+pub take_suc : {X : Type 0} (xs : List X) (i : ℕ) (d : X) → i < length xs → take (suc i) xs ≡ take i xs ++ get_or xs i d ∷ []
+take_suc [] i d h = absurd (omega arith)
+take_suc (x ∷ xs) 0 d h = refl
+take_suc (x ∷ xs) (suc i) d h = ap (λ (ys : List _). x ∷ ys) (take_suc xs i d (omega arith))
+
+module _ {K V : Type 0} (R : K → K → Ordering) (o : IsTotalOrder R) where
+  module _ (k : K) (es : List (K × V)) (u : pair.PairsRise R es) (i : ℕ) (d : K × V) (h : i < length es) where
+    around : pair.PairsRise R (take i es ++ get_or es i d ∷ drop (suc i) es)
+    around = subst (λ (fs : List (K × V)). pair.PairsRise R fs) (split_at es i d h) u
+
+    -- all pairs up to one that is below the key
+    pub below_upto : R (get_or es i d).0 k ≡ Less → pair.AreBelow R k (take (suc i) es)
+    below_upto l = subst (λ (fs : List (K × V)). pair.AreBelow R k fs) (sym (take_suc es i d h))
+        (each_both (λ (e : K × V). R e.0 k ≡ Less) (take i es) (get_or es i d ∷ [])
+        (below_less R o (get_or es i d).0 k (take i es) l (rise_below R o (take i es) (get_or es i d) (drop (suc i) es) around))
+        (l, tt))
+
+    -- all pairs from one that is above the key
+    pub above_since : R k (get_or es i d).0 ≡ Less → pair.AreAbove R k (drop i es)
+    above_since l = subst (λ (fs : List (K × V)). pair.AreAbove R k fs) (sym (drop_at_index es i d h))
+        (l, above_less R o k (get_or es i d).0 (drop (suc i) es) l (rise_back R o (take i es) (get_or es i d ∷ drop (suc i) es) around).0)
+
+    -- the pairs before and after one that has the key
+    pub below_hit : R k (get_or es i d).0 ≡ Equal → pair.AreBelow R k (take i es)
+    below_hit t = below_tied R o k (get_or es i d).0 (take i es) t (rise_below R o (take i es) (get_or es i d) (drop (suc i) es) around)
+
+    pub above_hit : R k (get_or es i d).0 ≡ Equal → pair.AreAbove R k (drop (suc i) es)
+    above_hit t = above_tied R o k (get_or es i d).0 (drop (suc i) es) t (rise_back R o (take i es) (get_or es i d ∷ drop (suc i) es) around).0
+
+  -- ---- at a pair that has the key
+
+  module _ (k : K) (es : List (K × V)) (i : ℕ) (h : pair.IsHit R k es i) (d : K × V) where
+    pub lookup_hit : lookup (is_at (R k)) es ≡ Some (get_or es i d).1
+    lookup_hit =
+        ap (lookup (is_at (R k))) (split_at es i d h.within)
+        ∙ lookup_between R o k (take i es) (get_or es i d ∷ []) (drop (suc i) es) h.below h.above
+        ∙ cond-true _ _ _ (ap is_eq (h.same d))
+
+    pub insert_hit : (v : V) → take i es ++ ((get_or es i d).0, v) ∷ drop (suc i) es ≡ insert_entry R es k v
+    insert_hit v =
+        sym (ap (λ (fs : List (K × V)). insert_entry R fs k v) (split_at es i d h.within)
+        ∙ insert_between R o k v (take i es) (get_or es i d ∷ []) (drop (suc i) es) h.below h.above
+        ∙ ap (λ z. take i es ++ (match_ordering z ((k, v) ∷ get_or es i d ∷ []) (((get_or es i d).0, v) ∷ []) (get_or es i d ∷ (k, v) ∷ []) ++ drop (suc i) es)) (h.same d))
+
+    pub remove_hit : take i es ++ drop (suc i) es ≡ remove_entry (is_at (R k)) es
+    remove_hit =
+        sym (ap (remove_entry (is_at (R k))) (split_at es i d h.within)
+        ∙ remove_between R o k (take i es) (get_or es i d ∷ []) (drop (suc i) es) h.below h.above
+        ∙ ap (λ (fs : List (K × V)). take i es ++ (fs ++ drop (suc i) es)) (cond-true _ _ _ (ap is_eq (h.same d))))
+
+  -- ---- where no pair has the key
+
+  module _ (k : K) (es : List (K × V)) (i : ℕ) (h : pair.IsGap R k es i) where
+    pub lookup_gap : lookup (is_at (R k)) es ≡ None
+    lookup_gap =
+        ap (lookup (is_at (R k))) (sym (take-append-drop i es))
+        ∙ lookup_between R o k (take i es) [] (drop i es) h.below h.above
+
+    pub insert_gap : (v : V) → take i es ++ (k, v) ∷ drop i es ≡ insert_entry R es k v
+    insert_gap v =
+        sym (ap (λ (fs : List (K × V)). insert_entry R fs k v) (sym (take-append-drop i es))
+        ∙ insert_between R o k v (take i es) [] (drop i es) h.below h.above)
+
+    pub remove_gap : es ≡ remove_entry (is_at (R k)) es
+    remove_gap =
+        sym (ap (remove_entry (is_at (R k))) (sym (take-append-drop i es))
+        ∙ remove_between R o k (take i es) [] (drop i es) h.below h.above
+        ∙ take-append-drop i es)
