@@ -20,8 +20,8 @@ use Rattle.cj_ptree.proofs.ZoneLaws.{above_from, below_insert, below_le, bound_l
 
 module _ {K V : Type 0} where
   -- the pairs of all parts round one of them
-  pub all_around : (as : List (K × List (K × V))) (p : K × List (K × V)) (bs : List (K × List (K × V))) → all_pairs (as ++ p ∷ bs) ≡ all_pairs as ++ (p.1 ++ all_pairs bs)
-  all_around as p bs = flat_map-append (λ (q : K × List (K × V)). q.1) as (p ∷ bs)
+  pub all_around : (ls : List (K × List (K × V))) (p : K × List (K × V)) (bs : List (K × List (K × V))) → all_pairs (ls ++ p ∷ bs) ≡ all_pairs ls ++ (p.1 ++ all_pairs bs)
+  all_around ls p bs = flat_map-append (λ (q : K × List (K × V)). q.1) ls (p ∷ bs)
 
 module _ {K V : Type 0} (R : K → K → Ordering) (o : IsTotalOrder R) where
   abbrev AreBelow : K → List (K × V) → Type 0
@@ -50,24 +50,24 @@ module _ {K V : Type 0} (R : K → K → Ordering) (o : IsTotalOrder R) where
 
   -- ---- some of the parts
 
-  pub divided_front : (as bs : List (K × List (K × V))) → IsDivided (as ++ bs) → IsDivided as
+  pub divided_front : (ls bs : List (K × List (K × V))) → IsDivided (ls ++ bs) → IsDivided ls
   divided_front [] bs h = tt
-  divided_front (a ∷ as) bs h = (h.0, h.1, each_front (IsAfter a.1) as bs h.2, divided_front as bs h.3)
+  divided_front (a ∷ ls) bs h = (h.0, h.1, each_front (IsAfter a.1) ls bs h.2, divided_front ls bs h.3)
 
-  pub divided_back : (as bs : List (K × List (K × V))) → IsDivided (as ++ bs) → IsDivided bs
+  pub divided_back : (ls bs : List (K × List (K × V))) → IsDivided (ls ++ bs) → IsDivided bs
   divided_back [] bs h = h
-  divided_back (a ∷ as) bs h = divided_back as bs h.3
+  divided_back (a ∷ ls) bs h = divided_back ls bs h.3
 
   -- ---- where a key belongs
 
   -- all pairs before a part are below its bound
-  pub low_pairs : (as : List (K × List (K × V))) (p : K × List (K × V)) (bs : List (K × List (K × V))) → IsDivided (as ++ p ∷ bs) → AreBelow p.0 (all_pairs as)
+  pub low_pairs : (ls : List (K × List (K × V))) (p : K × List (K × V)) (bs : List (K × List (K × V))) → IsDivided (ls ++ p ∷ bs) → AreBelow p.0 (all_pairs ls)
   low_pairs [] p bs h = tt
-  low_pairs (a ∷ as) p bs h = each_both (λ (e : K × V). R e.0 p.0 ≡ Less) a.1 (all_pairs as) (each_back (IsAfter a.1) as (p ∷ bs) h.2).0.0 (low_pairs as p bs h.3)
+  low_pairs (a ∷ ls) p bs h = each_both (λ (e : K × V). R e.0 p.0 ≡ Less) a.1 (all_pairs ls) (each_back (IsAfter a.1) ls (p ∷ bs) h.2).0.0 (low_pairs ls p bs h.3)
 
-  pub low_zone : (k : K) (as : List (K × List (K × V))) (p : K × List (K × V)) (bs : List (K × List (K × V))) → IsDivided (as ++ p ∷ bs) → StartsAt k as p.0 → AreBelow k (all_pairs as)
+  pub low_zone : (k : K) (ls : List (K × List (K × V))) (p : K × List (K × V)) (bs : List (K × List (K × V))) → IsDivided (ls ++ p ∷ bs) → StartsAt k ls p.0 → AreBelow k (all_pairs ls)
   low_zone k [] p bs h s = tt
-  low_zone k (a ∷ as) p bs h s = below_le R o p.0 k (all_pairs (a ∷ as)) s (low_pairs (a ∷ as) p bs h)
+  low_zone k (a ∷ ls) p bs h s = below_le R o p.0 k (all_pairs (a ∷ ls)) s (low_pairs (a ∷ ls) p bs h)
 
   ends_next : (k : K) (q : K × List (K × V)) (qs : List (K × List (K × V))) → is_filled q.1 ≡ true → AreFrom q.0 q.1 → AllByRecursion (IsAfter q.1) qs → R k q.0 ≡ Less → EndsBefore k qs
   ends_next k q [] f a h l = tt
@@ -98,99 +98,99 @@ module _ {K V : Type 0} (R : K → K → Ordering) (o : IsTotalOrder R) where
 
   -- ---- what concerns the pairs of one part alone
 
-  module _ (k : K) (as : List (K × List (K × V))) (p : K × List (K × V)) (bs : List (K × List (K × V))) (h : IsDivided (as ++ p ∷ bs)) (s : StartsAt k as p.0) (l : EndsBefore k bs) where
-    low : AreBelow k (all_pairs as)
-    low = low_zone k as p bs h s
+  module _ (k : K) (ls : List (K × List (K × V))) (p : K × List (K × V)) (bs : List (K × List (K × V))) (h : IsDivided (ls ++ p ∷ bs)) (s : StartsAt k ls p.0) (l : EndsBefore k bs) where
+    low : AreBelow k (all_pairs ls)
+    low = low_zone k ls p bs h s
 
     high : AreAbove k (all_pairs bs)
-    high = high_zone k p bs (divided_back as (p ∷ bs) h) l
+    high = high_zone k p bs (divided_back ls (p ∷ bs) h) l
 
-    pub lookup_part : lookup (is_at (R k)) (all_pairs (as ++ p ∷ bs)) ≡ lookup (is_at (R k)) p.1
-    lookup_part = ap (lookup (is_at (R k))) (all_around as p bs) ∙ lookup_between R o k (all_pairs as) p.1 (all_pairs bs) low high
+    pub lookup_part : lookup (is_at (R k)) (all_pairs (ls ++ p ∷ bs)) ≡ lookup (is_at (R k)) p.1
+    lookup_part = ap (lookup (is_at (R k))) (all_around ls p bs) ∙ lookup_between R o k (all_pairs ls) p.1 (all_pairs bs) low high
 
-    insert_part : (v : V) → insert_entry R (all_pairs (as ++ p ∷ bs)) k v ≡ all_pairs as ++ (insert_entry R p.1 k v ++ all_pairs bs)
-    insert_part v = ap (λ (es : List (K × V)). insert_entry R es k v) (all_around as p bs) ∙ insert_between R o k v (all_pairs as) p.1 (all_pairs bs) low high
+    insert_part : (v : V) → insert_entry R (all_pairs (ls ++ p ∷ bs)) k v ≡ all_pairs ls ++ (insert_entry R p.1 k v ++ all_pairs bs)
+    insert_part v = ap (λ (es : List (K × V)). insert_entry R es k v) (all_around ls p bs) ∙ insert_between R o k v (all_pairs ls) p.1 (all_pairs bs) low high
 
-    pub remove_part : remove_entry (is_at (R k)) (all_pairs (as ++ p ∷ bs)) ≡ all_pairs as ++ (remove_entry (is_at (R k)) p.1 ++ all_pairs bs)
-    remove_part = ap (remove_entry (is_at (R k))) (all_around as p bs) ∙ remove_between R o k (all_pairs as) p.1 (all_pairs bs) low high
+    pub remove_part : remove_entry (is_at (R k)) (all_pairs (ls ++ p ∷ bs)) ≡ all_pairs ls ++ (remove_entry (is_at (R k)) p.1 ++ all_pairs bs)
+    remove_part = ap (remove_entry (is_at (R k))) (all_around ls p bs) ∙ remove_between R o k (all_pairs ls) p.1 (all_pairs bs) low high
 
-    pub filter_part : filter (λ (e : K × V). is_le (R k e.0)) (all_pairs (as ++ p ∷ bs)) ≡ filter (λ (e : K × V). is_le (R k e.0)) p.1 ++ all_pairs bs
-    filter_part = ap (filter (λ (e : K × V). is_le (R k e.0))) (all_around as p bs) ∙ filter_between R o k (all_pairs as) p.1 (all_pairs bs) low high
+    pub filter_part : filter (λ (e : K × V). is_le (R k e.0)) (all_pairs (ls ++ p ∷ bs)) ≡ filter (λ (e : K × V). is_le (R k e.0)) p.1 ++ all_pairs bs
+    filter_part = ap (filter (λ (e : K × V). is_le (R k e.0))) (all_around ls p bs) ∙ filter_between R o k (all_pairs ls) p.1 (all_pairs bs) low high
 
   -- ---- parts in the place of one
 
   -- the new parts begin at the bound of the old one, if there are others before
   abbrev Follows : List (K × List (K × V)) → K → List (K × List (K × V)) → Type 0
   Follows [] bound news = ⊤
-  Follows (a ∷ as) bound news = AllByRecursion (λ (n : K × List (K × V)). (is_le (R bound n.0) ≡ true) × AreFrom n.0 n.1) news
+  Follows (a ∷ ls) bound news = AllByRecursion (λ (n : K × List (K × V)). (is_le (R bound n.0) ≡ true) × AreFrom n.0 n.1) news
 
-  follows_less : (as : List (K × List (K × V))) (bound : K) (news : List (K × List (K × V))) → AllByRecursion (λ (n : K × List (K × V)). (is_le (R bound n.0) ≡ true) × AreFrom n.0 n.1) news → Follows as bound news
+  follows_less : (ls : List (K × List (K × V))) (bound : K) (news : List (K × List (K × V))) → AllByRecursion (λ (n : K × List (K × V)). (is_le (R bound n.0) ≡ true) × AreFrom n.0 n.1) news → Follows ls bound news
   follows_less [] bound news f = tt
-  follows_less (a ∷ as) bound news f = f
+  follows_less (a ∷ ls) bound news f = f
 
-  pub replaced : (as : List (K × List (K × V))) (p : K × List (K × V)) (news bs : List (K × List (K × V))) → IsDivided (as ++ p ∷ bs) → IsDivided (news ++ bs) → Follows as p.0 news → IsDivided (as ++ (news ++ bs))
+  pub replaced : (ls : List (K × List (K × V))) (p : K × List (K × V)) (news bs : List (K × List (K × V))) → IsDivided (ls ++ p ∷ bs) → IsDivided (news ++ bs) → Follows ls p.0 news → IsDivided (ls ++ (news ++ bs))
   replaced [] p news bs h n f = n
-  replaced (a ∷ as) p news bs h n f =
-      let back : AllByRecursion (IsAfter a.1) (p ∷ bs) = each_back (IsAfter a.1) as (p ∷ bs) h.2 in
+  replaced (a ∷ ls) p news bs h n f =
+      let back : AllByRecursion (IsAfter a.1) (p ∷ bs) = each_back (IsAfter a.1) ls (p ∷ bs) h.2 in
       let middle : AllByRecursion (IsAfter a.1) news = each_weaker (λ (q : K × List (K × V)). (is_le (R p.0 q.0) ≡ true) × AreFrom q.0 q.1) (IsAfter a.1) (λ q g. (below_le R o p.0 q.0 a.1 g.0 back.0.0, g.1)) news f in
       (h.0, h.1,
-      each_both (IsAfter a.1) as (news ++ bs) (each_front (IsAfter a.1) as (p ∷ bs) h.2) (each_both (IsAfter a.1) news bs middle back.1),
-      replaced as p news bs h.3 n (follows_less as p.0 news f))
+      each_both (IsAfter a.1) ls (news ++ bs) (each_front (IsAfter a.1) ls (p ∷ bs) h.2) (each_both (IsAfter a.1) news bs middle back.1),
+      replaced ls p news bs h.3 n (follows_less ls p.0 news f))
 
   -- a part that has others before it begins at its bound
-  from_bound : (a : K × List (K × V)) (as : List (K × List (K × V))) (p : K × List (K × V)) (bs : List (K × List (K × V))) → IsDivided (a ∷ (as ++ p ∷ bs)) → AreFrom p.0 p.1
-  from_bound a as p bs h = (each_back (IsAfter a.1) as (p ∷ bs) h.2).0.1
+  from_bound : (a : K × List (K × V)) (ls : List (K × List (K × V))) (p : K × List (K × V)) (bs : List (K × List (K × V))) → IsDivided (a ∷ (ls ++ p ∷ bs)) → AreFrom p.0 p.1
+  from_bound a ls p bs h = (each_back (IsAfter a.1) ls (p ∷ bs) h.2).0.1
 
-  pub from_behind : (as : List (K × List (K × V))) (p : K × List (K × V)) (bs : List (K × List (K × V))) → is_filled as ≡ true → IsDivided (as ++ p ∷ bs) → AreFrom p.0 p.1
+  pub from_behind : (ls : List (K × List (K × V))) (p : K × List (K × V)) (bs : List (K × List (K × V))) → is_filled ls ≡ true → IsDivided (ls ++ p ∷ bs) → AreFrom p.0 p.1
   from_behind [] p bs f h = cc f
-  from_behind (a ∷ as) p bs f h = from_bound a as p bs h
+  from_behind (a ∷ ls) p bs f h = from_bound a ls p bs h
 
-  pub replaced_one : (as : List (K × List (K × V))) (p : K × List (K × V)) (es : List (K × V)) (bs : List (K × List (K × V))) → IsDivided (as ++ p ∷ bs) → PairsRise es → is_filled es ≡ true → AllByRecursion (λ (q : K × List (K × V)). AreBelow q.0 es) bs → Follows as p.0 ((p.0, es) ∷ []) → IsDivided (as ++ (p.0, es) ∷ bs)
-  replaced_one as p es bs h u f b g =
-      let back : IsDivided (p ∷ bs) = divided_back as (p ∷ bs) h in
-      replaced as p ((p.0, es) ∷ []) bs h
+  pub replaced_one : (ls : List (K × List (K × V))) (p : K × List (K × V)) (es : List (K × V)) (bs : List (K × List (K × V))) → IsDivided (ls ++ p ∷ bs) → PairsRise es → is_filled es ≡ true → AllByRecursion (λ (q : K × List (K × V)). AreBelow q.0 es) bs → Follows ls p.0 ((p.0, es) ∷ []) → IsDivided (ls ++ (p.0, es) ∷ bs)
+  replaced_one ls p es bs h u f b g =
+      let back : IsDivided (p ∷ bs) = divided_back ls (p ∷ bs) h in
+      replaced ls p ((p.0, es) ∷ []) bs h
       (u, f, each_joint (λ (q : K × List (K × V)). AreBelow q.0 es) (IsAfter p.1) (IsAfter es) (λ q x y. (x, y.1)) bs b back.2, back.3)
       g
 
   -- ---- a pair put into one part
 
-  rise_put : (k : K) (v : V) (as : List (K × List (K × V))) (p : K × List (K × V)) (bs : List (K × List (K × V))) → IsDivided (as ++ p ∷ bs) → PairsRise (insert_entry R p.1 k v)
-  rise_put k v as p bs h = rise_insert R o p.1 k v (divided_back as (p ∷ bs) h).0
+  rise_put : (k : K) (v : V) (ls : List (K × List (K × V))) (p : K × List (K × V)) (bs : List (K × List (K × V))) → IsDivided (ls ++ p ∷ bs) → PairsRise (insert_entry R p.1 k v)
+  rise_put k v ls p bs h = rise_insert R o p.1 k v (divided_back ls (p ∷ bs) h).0
 
-  below_put : (k : K) (v : V) (as : List (K × List (K × V))) (p : K × List (K × V)) (bs : List (K × List (K × V))) → IsDivided (as ++ p ∷ bs) → EndsBefore k bs → AllByRecursion (λ (q : K × List (K × V)). AreBelow q.0 (insert_entry R p.1 k v)) bs
-  below_put k v as p bs h l =
-      let back : IsDivided (p ∷ bs) = divided_back as (p ∷ bs) h in
+  below_put : (k : K) (v : V) (ls : List (K × List (K × V))) (p : K × List (K × V)) (bs : List (K × List (K × V))) → IsDivided (ls ++ p ∷ bs) → EndsBefore k bs → AllByRecursion (λ (q : K × List (K × V)). AreBelow q.0 (insert_entry R p.1 k v)) bs
+  below_put k v ls p bs h l =
+      let back : IsDivided (p ∷ bs) = divided_back ls (p ∷ bs) h in
       each_joint (λ (q : K × List (K × V)). R k q.0 ≡ Less) (IsAfter p.1) (λ (q : K × List (K × V)). AreBelow q.0 (insert_entry R p.1 k v)) (λ q x y. below_insert R o q.0 p.1 k v y.0 x) bs (ends_all k p bs back l) back.2
 
-  from_put : (k : K) (v : V) (a : K × List (K × V)) (as : List (K × List (K × V))) (p : K × List (K × V)) (bs : List (K × List (K × V))) → IsDivided (a ∷ (as ++ p ∷ bs)) → is_le (R p.0 k) ≡ true → AreFrom p.0 (insert_entry R p.1 k v)
-  from_put k v a as p bs h s = from_insert R o p.0 p.1 k v (from_bound a as p bs h) s
+  from_put : (k : K) (v : V) (a : K × List (K × V)) (ls : List (K × List (K × V))) (p : K × List (K × V)) (bs : List (K × List (K × V))) → IsDivided (a ∷ (ls ++ p ∷ bs)) → is_le (R p.0 k) ≡ true → AreFrom p.0 (insert_entry R p.1 k v)
+  from_put k v a ls p bs h s = from_insert R o p.0 p.1 k v (from_bound a ls p bs h) s
 
-  follows_one : (k : K) (v : V) (as : List (K × List (K × V))) (p : K × List (K × V)) (bs : List (K × List (K × V))) → IsDivided (as ++ p ∷ bs) → StartsAt k as p.0 → Follows as p.0 ((p.0, insert_entry R p.1 k v) ∷ [])
+  follows_one : (k : K) (v : V) (ls : List (K × List (K × V))) (p : K × List (K × V)) (bs : List (K × List (K × V))) → IsDivided (ls ++ p ∷ bs) → StartsAt k ls p.0 → Follows ls p.0 ((p.0, insert_entry R p.1 k v) ∷ [])
   follows_one k v [] p bs h s = tt
-  follows_one k v (a ∷ as) p bs h s = ((ap is_le (tied_itself o p.0), from_put k v a as p bs h s), tt)
+  follows_one k v (a ∷ ls) p bs h s = ((ap is_le (tied_itself o p.0), from_put k v a ls p bs h s), tt)
 
-  pub inserted_one : (k : K) (v : V) (as : List (K × List (K × V))) (p : K × List (K × V)) (es : List (K × V)) (bs : List (K × List (K × V))) → IsDivided (as ++ p ∷ bs) → StartsAt k as p.0 → EndsBefore k bs → es ≡ insert_entry R p.1 k v → IsDivided (as ++ (p.0, es) ∷ bs)
-  inserted_one k v as p es bs h s l e =
-      subst (λ (fs : List (K × V)). IsDivided (as ++ (p.0, fs) ∷ bs)) (sym e)
-      (replaced_one as p (insert_entry R p.1 k v) bs h (rise_put k v as p bs h) (filled_insert R o p.1 k v) (below_put k v as p bs h l) (follows_one k v as p bs h s))
+  pub inserted_one : (k : K) (v : V) (ls : List (K × List (K × V))) (p : K × List (K × V)) (es : List (K × V)) (bs : List (K × List (K × V))) → IsDivided (ls ++ p ∷ bs) → StartsAt k ls p.0 → EndsBefore k bs → es ≡ insert_entry R p.1 k v → IsDivided (ls ++ (p.0, es) ∷ bs)
+  inserted_one k v ls p es bs h s l e =
+      subst (λ (fs : List (K × V)). IsDivided (ls ++ (p.0, fs) ∷ bs)) (sym e)
+      (replaced_one ls p (insert_entry R p.1 k v) bs h (rise_put k v ls p bs h) (filled_insert R o p.1 k v) (below_put k v ls p bs h l) (follows_one k v ls p bs h s))
 
-  pub all_inserted_one : (k : K) (v : V) (as : List (K × List (K × V))) (p : K × List (K × V)) (es : List (K × V)) (bs : List (K × List (K × V))) → IsDivided (as ++ p ∷ bs) → StartsAt k as p.0 → EndsBefore k bs → es ≡ insert_entry R p.1 k v → all_pairs (as ++ (p.0, es) ∷ bs) ≡ insert_entry R (all_pairs (as ++ p ∷ bs)) k v
-  all_inserted_one k v as p es bs h s l e =
-      all_around as (p.0, es) bs
-      ∙ ap (λ (fs : List (K × V)). all_pairs as ++ (fs ++ all_pairs bs)) e
-      ∙ sym (insert_part k as p bs h s l v)
+  pub all_inserted_one : (k : K) (v : V) (ls : List (K × List (K × V))) (p : K × List (K × V)) (es : List (K × V)) (bs : List (K × List (K × V))) → IsDivided (ls ++ p ∷ bs) → StartsAt k ls p.0 → EndsBefore k bs → es ≡ insert_entry R p.1 k v → all_pairs (ls ++ (p.0, es) ∷ bs) ≡ insert_entry R (all_pairs (ls ++ p ∷ bs)) k v
+  all_inserted_one k v ls p es bs h s l e =
+      all_around ls (p.0, es) bs
+      ∙ ap (λ (fs : List (K × V)). all_pairs ls ++ (fs ++ all_pairs bs)) e
+      ∙ sym (insert_part k ls p bs h s l v)
 
-  module _ (k : K) (v : V) (as : List (K × List (K × V))) (p : K × List (K × V)) (es : List (K × V)) (m : K) (fs : List (K × V)) (bs : List (K × List (K × V))) (h : IsDivided (as ++ p ∷ bs)) (s : StartsAt k as p.0) (l : EndsBefore k bs)
+  module _ (k : K) (v : V) (ls : List (K × List (K × V))) (p : K × List (K × V)) (es : List (K × V)) (m : K) (fs : List (K × V)) (bs : List (K × List (K × V))) (h : IsDivided (ls ++ p ∷ bs)) (s : StartsAt k ls p.0) (l : EndsBefore k bs)
       (e : es ++ fs ≡ insert_entry R p.1 k v) (b : AreBelow m es) (f : AreFrom m fs) (g : is_filled es ≡ true) (i : is_filled fs ≡ true) where
     both_rise : PairsRise (es ++ fs)
-    both_rise = subst (λ (ds : List (K × V)). PairsRise ds) (sym e) (rise_put k v as p bs h)
+    both_rise = subst (λ (ds : List (K × V)). PairsRise ds) (sym e) (rise_put k v ls p bs h)
 
     both_below : AllByRecursion (λ (q : K × List (K × V)). AreBelow q.0 (es ++ fs)) bs
-    both_below = subst (λ (ds : List (K × V)). AllByRecursion (λ (q : K × List (K × V)). AreBelow q.0 ds) bs) (sym e) (below_put k v as p bs h l)
+    both_below = subst (λ (ds : List (K × V)). AllByRecursion (λ (q : K × List (K × V)). AreBelow q.0 ds) bs) (sym e) (below_put k v ls p bs h l)
 
     two_divided : IsDivided ((p.0, es) ∷ (m, fs) ∷ bs)
     two_divided =
-        let back : IsDivided (p ∷ bs) = divided_back as (p ∷ bs) h in
+        let back : IsDivided (p ∷ bs) = divided_back ls (p ∷ bs) h in
         let after : (ds : List (K × V)) → AllByRecursion (λ (q : K × List (K × V)). AreBelow q.0 ds) bs → AllByRecursion (IsAfter ds) bs = λ ds x. each_joint (λ (q : K × List (K × V)). AreBelow q.0 ds) (IsAfter p.1) (IsAfter ds) (λ q y z. (y, z.1)) bs x back.2 in
         (rise_front R o es fs both_rise, g,
         ((b, f), after es (each_weaker (λ (q : K × List (K × V)). AreBelow q.0 (es ++ fs)) (λ (q : K × List (K × V)). AreBelow q.0 es) (λ q x. each_front (λ (d : K × V). R d.0 q.0 ≡ Less) es fs x) bs both_below)),
@@ -205,37 +205,37 @@ module _ {K V : Type 0} (R : K → K → Ordering) (o : IsTotalOrder R) where
         let first : AreFrom p.0 es = each_front (λ (d : K × V). is_le (R p.0 d.0) ≡ true) es fs from in
         ((ap is_le (tied_itself o p.0), first), (ap is_le (bound_less R o p.0 m es g first b), f), tt)
 
-    pub inserted_two : IsDivided (as ++ (p.0, es) ∷ (m, fs) ∷ bs)
-    inserted_two = replaced as p ((p.0, es) ∷ (m, fs) ∷ []) bs h two_divided (follows_two as h s)
+    pub inserted_two : IsDivided (ls ++ (p.0, es) ∷ (m, fs) ∷ bs)
+    inserted_two = replaced ls p ((p.0, es) ∷ (m, fs) ∷ []) bs h two_divided (follows_two ls h s)
 
-    pub all_inserted_two : all_pairs (as ++ (p.0, es) ∷ (m, fs) ∷ bs) ≡ insert_entry R (all_pairs (as ++ p ∷ bs)) k v
+    pub all_inserted_two : all_pairs (ls ++ (p.0, es) ∷ (m, fs) ∷ bs) ≡ insert_entry R (all_pairs (ls ++ p ∷ bs)) k v
     all_inserted_two =
-        all_around as (p.0, es) ((m, fs) ∷ bs)
-        ∙ ap (λ (ds : List (K × V)). all_pairs as ++ ds) (sym (append_assoc es fs (all_pairs bs)))
-        ∙ ap (λ (ds : List (K × V)). all_pairs as ++ (ds ++ all_pairs bs)) e
-        ∙ sym (insert_part k as p bs h s l v)
+        all_around ls (p.0, es) ((m, fs) ∷ bs)
+        ∙ ap (λ (ds : List (K × V)). all_pairs ls ++ ds) (sym (append_assoc es fs (all_pairs bs)))
+        ∙ ap (λ (ds : List (K × V)). all_pairs ls ++ (ds ++ all_pairs bs)) e
+        ∙ sym (insert_part k ls p bs h s l v)
 
   -- ---- a pair removed from one part
 
-  follows_gone : (k : K) (as : List (K × List (K × V))) (p : K × List (K × V)) (bs : List (K × List (K × V))) → IsDivided (as ++ p ∷ bs) → Follows as p.0 ((p.0, remove_entry (is_at (R k)) p.1) ∷ [])
+  follows_gone : (k : K) (ls : List (K × List (K × V))) (p : K × List (K × V)) (bs : List (K × List (K × V))) → IsDivided (ls ++ p ∷ bs) → Follows ls p.0 ((p.0, remove_entry (is_at (R k)) p.1) ∷ [])
   follows_gone k [] p bs h = tt
-  follows_gone k (a ∷ as) p bs h = ((ap is_le (tied_itself o p.0), each_remove R (λ (e : K × V). is_le (R p.0 e.0) ≡ true) (is_at (R k)) p.1 (from_bound a as p bs h)), tt)
+  follows_gone k (a ∷ ls) p bs h = ((ap is_le (tied_itself o p.0), each_remove R (λ (e : K × V). is_le (R p.0 e.0) ≡ true) (is_at (R k)) p.1 (from_bound a ls p bs h)), tt)
 
-  pub removed_one : (k : K) (as : List (K × List (K × V))) (p : K × List (K × V)) (es : List (K × V)) (bs : List (K × List (K × V))) → IsDivided (as ++ p ∷ bs) → es ≡ remove_entry (is_at (R k)) p.1 → is_filled es ≡ true → IsDivided (as ++ (p.0, es) ∷ bs)
-  removed_one k as p es bs h e f =
-      let back : IsDivided (p ∷ bs) = divided_back as (p ∷ bs) h in
-      subst (λ (ds : List (K × V)). IsDivided (as ++ (p.0, ds) ∷ bs)) (sym e)
-      (replaced_one as p (remove_entry (is_at (R k)) p.1) bs h
+  pub removed_one : (k : K) (ls : List (K × List (K × V))) (p : K × List (K × V)) (es : List (K × V)) (bs : List (K × List (K × V))) → IsDivided (ls ++ p ∷ bs) → es ≡ remove_entry (is_at (R k)) p.1 → is_filled es ≡ true → IsDivided (ls ++ (p.0, es) ∷ bs)
+  removed_one k ls p es bs h e f =
+      let back : IsDivided (p ∷ bs) = divided_back ls (p ∷ bs) h in
+      subst (λ (ds : List (K × V)). IsDivided (ls ++ (p.0, ds) ∷ bs)) (sym e)
+      (replaced_one ls p (remove_entry (is_at (R k)) p.1) bs h
       (rise_remove R (is_at (R k)) p.1 back.0)
       (ap is_filled (sym e) ∙ f)
       (each_weaker (IsAfter p.1) (λ (q : K × List (K × V)). AreBelow q.0 (remove_entry (is_at (R k)) p.1)) (λ q x. each_remove R (λ (d : K × V). R d.0 q.0 ≡ Less) (is_at (R k)) p.1 x.0) bs back.2)
-      (follows_gone k as p bs h))
+      (follows_gone k ls p bs h))
 
-  pub removed_all : (as : List (K × List (K × V))) (p : K × List (K × V)) (bs : List (K × List (K × V))) → IsDivided (as ++ p ∷ bs) → IsDivided (as ++ bs)
-  removed_all as p bs h = replaced as p [] bs h (divided_back as (p ∷ bs) h).3 (follows_less as p.0 [] tt)
+  pub removed_all : (ls : List (K × List (K × V))) (p : K × List (K × V)) (bs : List (K × List (K × V))) → IsDivided (ls ++ p ∷ bs) → IsDivided (ls ++ bs)
+  removed_all ls p bs h = replaced ls p [] bs h (divided_back ls (p ∷ bs) h).3 (follows_less ls p.0 [] tt)
 
-  pub all_removed_one : (k : K) (as : List (K × List (K × V))) (p : K × List (K × V)) (es : List (K × V)) (bs : List (K × List (K × V))) → IsDivided (as ++ p ∷ bs) → StartsAt k as p.0 → EndsBefore k bs → es ≡ remove_entry (is_at (R k)) p.1 → all_pairs (as ++ (p.0, es) ∷ bs) ≡ remove_entry (is_at (R k)) (all_pairs (as ++ p ∷ bs))
-  all_removed_one k as p es bs h s l e =
-      all_around as (p.0, es) bs
-      ∙ ap (λ (ds : List (K × V)). all_pairs as ++ (ds ++ all_pairs bs)) e
-      ∙ sym (remove_part k as p bs h s l)
+  pub all_removed_one : (k : K) (ls : List (K × List (K × V))) (p : K × List (K × V)) (es : List (K × V)) (bs : List (K × List (K × V))) → IsDivided (ls ++ p ∷ bs) → StartsAt k ls p.0 → EndsBefore k bs → es ≡ remove_entry (is_at (R k)) p.1 → all_pairs (ls ++ (p.0, es) ∷ bs) ≡ remove_entry (is_at (R k)) (all_pairs (ls ++ p ∷ bs))
+  all_removed_one k ls p es bs h s l e =
+      all_around ls (p.0, es) bs
+      ∙ ap (λ (ds : List (K × V)). all_pairs ls ++ (ds ++ all_pairs bs)) e
+      ∙ sym (remove_part k ls p bs h s l)

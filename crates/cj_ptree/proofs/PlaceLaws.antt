@@ -1,5 +1,5 @@
 -- Where a key belongs among pairs in rising key.
-use Rattle.std.proofs.Common.{◌≡◌, ◌∙◌, ℕ, suc, ◌+◌, ◌<◌, ◌≤◌, true, List, [], ◌∷◌, ◌++◌, length, get_or, set, take, drop, refl, ap, sym, subst, arith, Ordering, Less, Equal, Greater, is_eq}
+use Rattle.std.proofs.Common.{◌≡◌, ◌∙◌, ℕ, suc, ◌+◌, ◌-◌, ◌<◌, ◌≤◌, true, List, [], ◌∷◌, ◌++◌, length, get_or, set, take, drop, refl, ap, sym, subst, arith, Ordering, Less, Equal, Greater, is_eq}
 use Rattle.std.specs.BTreeMap.{insert_entry, is_at}
 use Rattle.std.specs.Cmp.{IsTotalOrder}
 use Rattle.std.specs.List.{AllByRecursion}
@@ -8,10 +8,12 @@ use Rattle.std.specs.Ordering.{match_ordering}
 use Rattle.std.specs.declared.option.Option.{Option}
 use Rattle.std.specs.declared.option.Option.TheVariants.{None, Some}
 use Rattle.std.proofs.lemmas.Bool.{cond-true}
-use Rattle.std.proofs.lemmas.List.{append-nil, set-get_or, set_split, take-append-drop}
+use Rattle.std.specs.Ordering.{is_le}
+use Rattle.std.specs.Prelude.{filter}
+use Rattle.std.proofs.lemmas.List.{length-drop, set-get_or, set_split, take-append-drop, take_all}
 use Rattle.cj_ptree.specs.Pairs as pair
 use Rattle.cj_ptree.proofs.OrderLaws.{each_both, greater_back}
-use Rattle.cj_ptree.proofs.ZoneLaws.{above_less, above_tied, below_less, below_tied, insert_between, lookup_between, remove_between, rise_back, rise_below}
+use Rattle.cj_ptree.proofs.ZoneLaws.{above_less, above_tied, below_less, below_tied, filter_from, from_above, insert_between, lookup_between, remove_between, rise_back, rise_below}
 
 -- a list round the item at an index
 pub split_at : {X : Type 0} (xs : List X) (i : ℕ) (d : X) → i < length xs → xs ≡ take i xs ++ get_or xs i d ∷ drop (suc i) xs
@@ -26,6 +28,10 @@ pub take_suc : {X : Type 0} (xs : List X) (i : ℕ) (d : X) → i < length xs �
 take_suc [] i d h = absurd (omega arith)
 take_suc (x ∷ xs) 0 d h = refl
 take_suc (x ∷ xs) (suc i) d h = ap (λ (ys : List _). x ∷ ys) (take_suc xs i d (omega arith))
+
+-- the items from an index on, as a slice has them
+pub rest_at : {X : Type 0} (xs : List X) (i : ℕ) → take (length xs - i) (drop i xs) ≡ drop i xs
+rest_at xs i = take_all (length xs - i) (drop i xs) (omega (arith, length-drop i xs))
 
 module _ {K V : Type 0} (R : K → K → Ordering) (o : IsTotalOrder R) where
   module _ (k : K) (es : List (K × V)) (u : pair.PairsRise R es) (i : ℕ) (d : K × V) (h : i < length es) where
@@ -90,3 +96,23 @@ module _ {K V : Type 0} (R : K → K → Ordering) (o : IsTotalOrder R) where
         sym (ap (remove_entry (is_at (R k))) (sym (take-append-drop i es))
         ∙ remove_between R o k (take i es) [] (drop i es) h.below h.above
         ∙ take-append-drop i es)
+
+  -- ---- the pairs from a key on
+
+  filter_drop : (k : K) (es : List (K × V)) (i : ℕ) → pair.AreBelow R k (take i es) → pair.AreFrom R k (drop i es) → take (length es - i) (drop i es) ≡ filter (λ (e : K × V). is_le (R k e.0)) es
+  filter_drop k es i b f =
+      rest_at es i
+      ∙ sym (ap (filter (λ (e : K × V). is_le (R k e.0))) (sym (take-append-drop i es))
+      ∙ filter_from R o k (take i es) (drop i es) b f)
+
+  from_hit : (k : K) (es : List (K × V)) (i : ℕ) → pair.IsHit R k es i → pair.AreFrom R k (drop i es)
+  from_hit k [] i h = absurd (omega (arith, h.within))
+  from_hit k (x ∷ xs) i h =
+      subst (λ (fs : List (K × V)). pair.AreFrom R k fs) (sym (drop_at_index (x ∷ xs) i x h.within))
+      (ap is_le (h.same x), from_above R o k (drop (suc i) (x ∷ xs)) h.above)
+
+  pub filter_hit : (k : K) (es : List (K × V)) (i : ℕ) → pair.IsHit R k es i → take (length es - i) (drop i es) ≡ filter (λ (e : K × V). is_le (R k e.0)) es
+  filter_hit k es i h = filter_drop k es i h.below (from_hit k es i h)
+
+  pub filter_gap : (k : K) (es : List (K × V)) (i : ℕ) → pair.IsGap R k es i → take (length es - i) (drop i es) ≡ filter (λ (e : K × V). is_le (R k e.0)) es
+  filter_gap k es i h = filter_drop k es i h.below (from_above R o k (drop i es) h.above)

@@ -77,9 +77,9 @@ module _ {K V : Type 0} (R : K → K → Ordering) (o : IsTotalOrder R) where
 
   -- ---- the pairs between alone
 
-  lookup_low : (k : K) (as bs : List (K × V)) → AreBelow k as → lookup (is_at (R k)) (as ++ bs) ≡ lookup (is_at (R k)) bs
+  lookup_low : (k : K) (ls bs : List (K × V)) → AreBelow k ls → lookup (is_at (R k)) (ls ++ bs) ≡ lookup (is_at (R k)) bs
   lookup_low k [] bs h = refl
-  lookup_low k (a ∷ as) bs h = cond-false _ _ _ (not_le R o a.0 k h.0) ∙ lookup_low k as bs h.1
+  lookup_low k (a ∷ ls) bs h = cond-false _ _ _ (not_le R o a.0 k h.0) ∙ lookup_low k ls bs h.1
 
   lookup_none : (k : K) (cs : List (K × V)) → AreAbove k cs → lookup (is_at (R k)) cs ≡ None
   lookup_none k [] h = refl
@@ -89,17 +89,17 @@ module _ {K V : Type 0} (R : K → K → Ordering) (o : IsTotalOrder R) where
   lookup_high k [] cs h = lookup_none k cs h
   lookup_high k (b ∷ bs) cs h = ap (λ z. cond (is_at (R k) b.0) (Some b.1) z) (lookup_high k bs cs h)
 
-  pub lookup_between : (k : K) (as bs cs : List (K × V)) → AreBelow k as → AreAbove k cs → lookup (is_at (R k)) (as ++ (bs ++ cs)) ≡ lookup (is_at (R k)) bs
-  lookup_between k as bs cs g h = lookup_low k as (bs ++ cs) g ∙ lookup_high k bs cs h
+  pub lookup_between : (k : K) (ls bs cs : List (K × V)) → AreBelow k ls → AreAbove k cs → lookup (is_at (R k)) (ls ++ (bs ++ cs)) ≡ lookup (is_at (R k)) bs
+  lookup_between k ls bs cs g h = lookup_low k ls (bs ++ cs) g ∙ lookup_high k bs cs h
 
   abbrev put_first : K → V → K × V → List (K × V) → List (K × V) → Ordering → List (K × V)
   put_first k v e es rest z = match_ordering z ((k, v) ∷ e ∷ es) ((e.0, v) ∷ es) (e ∷ rest)
 
-  insert_low : (k : K) (v : V) (as bs : List (K × V)) → AreBelow k as → insert_entry R (as ++ bs) k v ≡ as ++ insert_entry R bs k v
+  insert_low : (k : K) (v : V) (ls bs : List (K × V)) → AreBelow k ls → insert_entry R (ls ++ bs) k v ≡ ls ++ insert_entry R bs k v
   insert_low k v [] bs h = refl
-  insert_low k v (a ∷ as) bs h =
-      ap (put_first k v a (as ++ bs) (insert_entry R (as ++ bs) k v)) (less_back R o a.0 k h.0)
-      ∙ ap (λ (es : List (K × V)). a ∷ es) (insert_low k v as bs h.1)
+  insert_low k v (a ∷ ls) bs h =
+      ap (put_first k v a (ls ++ bs) (insert_entry R (ls ++ bs) k v)) (less_back R o a.0 k h.0)
+      ∙ ap (λ (es : List (K × V)). a ∷ es) (insert_low k v ls bs h.1)
 
   insert_all_high : (k : K) (v : V) (cs : List (K × V)) → AreAbove k cs → insert_entry R cs k v ≡ (k, v) ∷ cs
   insert_all_high k v [] h = refl
@@ -114,12 +114,12 @@ module _ {K V : Type 0} (R : K → K → Ordering) (o : IsTotalOrder R) where
       ∙ ap (λ (es : List (K × V)). b ∷ es) (insert_high k v bs cs h)
       ∙ sym (ap (λ z. put_first k v b bs (insert_entry R bs k v) z ++ cs) e))
 
-  pub insert_between : (k : K) (v : V) (as bs cs : List (K × V)) → AreBelow k as → AreAbove k cs → insert_entry R (as ++ (bs ++ cs)) k v ≡ as ++ (insert_entry R bs k v ++ cs)
-  insert_between k v as bs cs g h = insert_low k v as (bs ++ cs) g ∙ ap (λ (es : List (K × V)). as ++ es) (insert_high k v bs cs h)
+  pub insert_between : (k : K) (v : V) (ls bs cs : List (K × V)) → AreBelow k ls → AreAbove k cs → insert_entry R (ls ++ (bs ++ cs)) k v ≡ ls ++ (insert_entry R bs k v ++ cs)
+  insert_between k v ls bs cs g h = insert_low k v ls (bs ++ cs) g ∙ ap (λ (es : List (K × V)). ls ++ es) (insert_high k v bs cs h)
 
-  remove_low : (k : K) (as bs : List (K × V)) → AreBelow k as → remove_entry (is_at (R k)) (as ++ bs) ≡ as ++ remove_entry (is_at (R k)) bs
+  remove_low : (k : K) (ls bs : List (K × V)) → AreBelow k ls → remove_entry (is_at (R k)) (ls ++ bs) ≡ ls ++ remove_entry (is_at (R k)) bs
   remove_low k [] bs h = refl
-  remove_low k (a ∷ as) bs h = cond-false _ _ _ (not_le R o a.0 k h.0) ∙ ap (λ (es : List (K × V)). a ∷ es) (remove_low k as bs h.1)
+  remove_low k (a ∷ ls) bs h = cond-false _ _ _ (not_le R o a.0 k h.0) ∙ ap (λ (es : List (K × V)). a ∷ es) (remove_low k ls bs h.1)
 
   pub remove_none : (k : K) (cs : List (K × V)) → AreAbove k cs → remove_entry (is_at (R k)) cs ≡ cs
   remove_none k [] h = refl
@@ -132,15 +132,15 @@ module _ {K V : Type 0} (R : K → K → Ordering) (o : IsTotalOrder R) where
     | false ↦ ap (λ (es : List (K × V)). b ∷ es) (remove_high k bs cs h)
   ]
 
-  pub remove_between : (k : K) (as bs cs : List (K × V)) → AreBelow k as → AreAbove k cs → remove_entry (is_at (R k)) (as ++ (bs ++ cs)) ≡ as ++ (remove_entry (is_at (R k)) bs ++ cs)
-  remove_between k as bs cs g h = remove_low k as (bs ++ cs) g ∙ ap (λ (es : List (K × V)). as ++ es) (remove_high k bs cs h)
+  pub remove_between : (k : K) (ls bs cs : List (K × V)) → AreBelow k ls → AreAbove k cs → remove_entry (is_at (R k)) (ls ++ (bs ++ cs)) ≡ ls ++ (remove_entry (is_at (R k)) bs ++ cs)
+  remove_between k ls bs cs g h = remove_low k ls (bs ++ cs) g ∙ ap (λ (es : List (K × V)). ls ++ es) (remove_high k bs cs h)
 
   abbrev starts : K → K × V → Bool
   starts k e = is_le (R k e.0)
 
-  filter_low : (k : K) (as bs : List (K × V)) → AreBelow k as → filter (starts k) (as ++ bs) ≡ filter (starts k) bs
+  filter_low : (k : K) (ls bs : List (K × V)) → AreBelow k ls → filter (starts k) (ls ++ bs) ≡ filter (starts k) bs
   filter_low k [] bs h = refl
-  filter_low k (a ∷ as) bs h = cond-false _ _ _ (ap is_le (less_back R o a.0 k h.0)) ∙ filter_low k as bs h.1
+  filter_low k (a ∷ ls) bs h = cond-false _ _ _ (ap is_le (less_back R o a.0 k h.0)) ∙ filter_low k ls bs h.1
 
   filter_all : (k : K) (cs : List (K × V)) → AreFrom k cs → filter (starts k) cs ≡ cs
   filter_all k [] h = refl
@@ -153,11 +153,11 @@ module _ {K V : Type 0} (R : K → K → Ordering) (o : IsTotalOrder R) where
     | false ↦ filter_high k bs cs h
   ]
 
-  pub filter_between : (k : K) (as bs cs : List (K × V)) → AreBelow k as → AreAbove k cs → filter (starts k) (as ++ (bs ++ cs)) ≡ filter (starts k) bs ++ cs
-  filter_between k as bs cs g h = filter_low k as (bs ++ cs) g ∙ filter_high k bs cs (from_above k cs h)
+  pub filter_between : (k : K) (ls bs cs : List (K × V)) → AreBelow k ls → AreAbove k cs → filter (starts k) (ls ++ (bs ++ cs)) ≡ filter (starts k) bs ++ cs
+  filter_between k ls bs cs g h = filter_low k ls (bs ++ cs) g ∙ filter_high k bs cs (from_above k cs h)
 
-  pub filter_from : (k : K) (as bs : List (K × V)) → AreBelow k as → AreFrom k bs → filter (starts k) (as ++ bs) ≡ bs
-  filter_from k as bs g h = filter_low k as bs g ∙ filter_all k bs h
+  pub filter_from : (k : K) (ls bs : List (K × V)) → AreBelow k ls → AreFrom k bs → filter (starts k) (ls ++ bs) ≡ bs
+  filter_from k ls bs g h = filter_low k ls bs g ∙ filter_all k bs h
 
   -- ---- what changes keep
 

@@ -1,0 +1,11 @@
+use Rattle.std.proofs.Common.{rules, ◌≡◌, [], ◌∷◌, IfOk, OnOk, OnErr, ℕ, ◌+◌, ◌-◌, ◌*◌, ◌<◌, ◌≤◌, length, ◌/◌, ◌%◌, Bool, true, false, nat_eq, nat_lt, List, ◌++◌, slice_index_or, slice_set, bit_and, bit_or, Fits, w8, w32, w64, Bor, MutBor}
+use Rattle.std.specs.BTreeMap.{insert_entry, is_at}
+use Rattle.std.specs.Map.{lookup}
+use Rattle.cj_ptree.specs.Branches.{IsBranch, OwnsBranch, branch_pairs, part_of}
+use Rattle.cj_ptree.specs.Links.{target}
+use Rattle.cj_ptree.specs.Nodes.{SplitsOff}
+use Rattle.cj_ptree.proofs.branch.BranchNode.copied.Goals as goal
+
+-- src/branch.rt:195:9
+pub loop-child-preserved : goal.loop-child-preserved
+loop-child-preserved g c = ?
