@@ -1,12 +1,15 @@
 -- Children of a branch: where a key belongs among them, and what a change below one of them keeps.
-use Rattle.std.proofs.Common.{◌≡◌, ◌∙◌, ℕ, suc, ◌+◌, ◌<◌, true, false, List, [], ◌∷◌, ◌++◌, length, get_or, set, take, drop, map, refl, ap, sym, subst, arith, add-one, Ordering, Less}
+use Rattle.std.proofs.Common.{◌≡◌, ◌∙◌, ℕ, zero, suc, ◌+◌, ◌<◌, true, false, List, [], ◌∷◌, ◌++◌, length, get_or, set, take, drop, map, refl, ap, sym, subst, arith, add-one, Ordering, Less}
 use Rattle.std.specs.BTreeMap.{insert_entry, is_at}
 use Rattle.std.specs.Cmp.{IsTotalOrder}
 use Rattle.std.specs.List.{AllByRecursion, insert, remove}
 use Rattle.std.specs.Map.{lookup, remove_entry}
+use Rattle.std.specs.Result.{OnErr}
+use Rattle.std.specs.declared.result.Result.{Result}
+use Rattle.std.specs.declared.result.Result.TheVariants.{Err, Ok}
 use Rattle.std.specs.Ordering.{is_le}
 use Rattle.std.specs.Prelude.{filter}
-use Rattle.std.proofs.lemmas.List.{append-nil, append_assoc, drop-set-lt, length-set, map-append, set_split, take_more_set}
+use Rattle.std.proofs.lemmas.List.{append_assoc, drop-set-lt, map-append, set_split, take-append-drop, take-map, take-set, take_more_set}
 use Rattle.std.proofs.lemmas.List.Concat.{flat_map-append}
 use Rattle.cj_ptree.specs.declared.child.Child.{Child}
 use Rattle.cj_ptree.specs.declared.link.Link.{Link}
@@ -17,35 +20,44 @@ use Rattle.cj_ptree.specs.Pairs as pair
 use Rattle.cj_ptree.specs.Pairs.{is_filled}
 use Rattle.cj_ptree.specs.Parts as part
 use Rattle.cj_ptree.specs.Parts.{all_pairs}
-use Rattle.cj_ptree.proofs.OrderLaws.{each_both, each_front, each_back}
-use Rattle.cj_ptree.proofs.PlaceLaws.{drop_at_index, split_at}
+use Rattle.cj_ptree.proofs.OrderLaws.{each_both}
+use Rattle.cj_ptree.proofs.PlaceLaws.{drop_at_index, split_at, take_suc}
 use Rattle.cj_ptree.proofs.PartLaws.{all_inserted_one, all_inserted_two, all_removed_one, divided_back, divided_front, filter_part, from_all, from_behind, inserted_one, inserted_two, lookup_part, low_pairs, removed_all, removed_one}
+
+-- what holds anyway holds on an error
+pub on_err : {T E P : Type 0} (r : Result T E) → P → OnErr r P
+on_err (Ok x) p = tt
+on_err (Err x) p = p
 
 -- ---- each item of a changed list
 
 module _ {X : Type 0} (P : X → Type 0) where
   pub each_at : (xs : List X) (i : ℕ) (d : X) → i < length xs → AllByRecursion P xs → P (get_or xs i d)
   each_at [] i d h a = absurd (omega arith)
-  each_at (x ∷ xs) 0 d h a = a.0
+  each_at (x ∷ xs) zero d h a = a.0
   each_at (x ∷ xs) (suc i) d h a = each_at xs i d (omega arith) a.1
 
   pub each_set : (xs : List X) (i : ℕ) (y : X) → P y → AllByRecursion P xs → AllByRecursion P (set xs i y)
   each_set [] i y p a = tt
-  each_set (x ∷ xs) 0 y p a = (p, a.1)
+  each_set (x ∷ xs) zero y p a = (p, a.1)
   each_set (x ∷ xs) (suc i) y p a = (a.0, each_set xs i y p a.1)
 
   pub each_take : (xs : List X) (i : ℕ) → AllByRecursion P xs → AllByRecursion P (take i xs)
-  each_take xs 0 a = tt
+  each_take xs zero a = tt
   each_take [] (suc i) a = tt
   each_take (x ∷ xs) (suc i) a = (a.0, each_take xs i a.1)
 
   pub each_drop : (xs : List X) (i : ℕ) → AllByRecursion P xs → AllByRecursion P (drop i xs)
-  each_drop xs 0 a = a
+  each_drop xs zero a = a
   each_drop [] (suc i) a = tt
   each_drop (x ∷ xs) (suc i) a = each_drop xs i a.1
 
   pub each_in : (xs : List X) (i : ℕ) (y : X) → P y → AllByRecursion P xs → AllByRecursion P (insert xs i y)
   each_in xs i y p a = each_both P (take i xs) (y ∷ drop i xs) (each_take xs i a) (p, each_drop xs i a)
+
+  -- each of the first items, with one more that was set
+  pub each_more : (xs : List X) (i : ℕ) (y : X) → i < length xs → P y → AllByRecursion P (take i xs) → AllByRecursion P (take (i + 1) (set xs i y))
+  each_more xs i y h p a = subst (λ (ys : List X). AllByRecursion P ys) (sym (take_more_set xs i y h)) (each_both P (take i xs) (y ∷ []) a (p, tt))
 
   pub each_out : (xs : List X) (i : ℕ) → AllByRecursion P xs → AllByRecursion P (remove xs i)
   each_out xs i a = each_both P (take i xs) (drop (suc i) xs) (each_take xs i a) (each_drop xs (suc i) a)
@@ -72,22 +84,33 @@ module _ {K V N : Type 0} (pairs : N → List (K × V)) where
       ∙ ap parts (append_assoc (take i cs) (c ∷ []) (d ∷ drop (suc i) cs))
       ∙ map-append part_of (take i cs) (c ∷ d ∷ drop (suc i) cs)
 
+  -- copies of the first children, with one more
+  pub parts_more : (cs ds : List (Child K N)) (i : ℕ) (child c : Child K N) → i < length cs → child ≡ get_or cs i child → parts ds ≡ take i (parts cs) → part_of c ≡ part_of child → parts (ds ++ c ∷ []) ≡ take (i + 1) (parts cs)
+  parts_more cs ds i child c h e p q =
+      map-append part_of ds (c ∷ [])
+      ∙ ap (λ (ps : List (K × List (K × V))). ps ++ part_of c ∷ []) (p ∙ take-map part_of i cs)
+      ∙ ap (λ (r : K × List (K × V)). parts (take i cs) ++ r ∷ []) (q ∙ ap part_of e)
+      ∙ sym (map-append part_of (take i cs) (get_or cs i child ∷ []))
+      ∙ ap parts (sym (take_suc cs i child h))
+      ∙ sym (take-map part_of (suc i) cs)
+      ∙ ap (λ n. take n (parts cs)) (sym (add-one i))
+
   -- one child out of a list that another was set in before
   pub parts_out : (cs : List (Child K N)) (i : ℕ) (c : Child K N) → i < length cs → parts (remove (set cs i c) i) ≡ parts (take i cs) ++ parts (drop (suc i) cs)
   parts_out cs i c h =
-      ap (λ (xs : List (Child K N)). parts (xs ++ drop (suc i) (set cs i c))) (Rattle.std.proofs.lemmas.List.take-set cs i c)
+      ap (λ (xs : List (Child K N)). parts (xs ++ drop (suc i) (set cs i c))) (take-set cs i c)
       ∙ ap (λ (xs : List (Child K N)). parts (take i cs ++ xs)) (drop-set-lt (suc i) cs i c (omega arith))
       ∙ map-append part_of (take i cs) (drop (suc i) cs)
 
   module _ (R : K → K → Ordering) where
     pub starts : (k : K) (cs : List (Child K N)) (i : ℕ) (bound : K) → (0 < i → is_le (R bound k) ≡ true) → part.StartsAt R k (parts (take i cs)) bound
-    starts k cs 0 bound h = tt
+    starts k cs zero bound h = tt
     starts k [] (suc i) bound h = tt
     starts k (c ∷ cs) (suc i) bound h = h (omega arith)
 
     pub ends : (k : K) (cs : List (Child K N)) (i : ℕ) → ((d : Child K N) → i < length cs → R k (get_or cs i d).bound ≡ Less) → part.EndsBefore R k (parts (drop i cs))
-    ends k [] 0 h = tt
-    ends k (c ∷ cs) 0 h = h c (omega arith)
+    ends k [] zero h = tt
+    ends k (c ∷ cs) zero h = h c (omega arith)
     ends k [] (suc i) h = tt
     ends k (c ∷ cs) (suc i) h = ends k cs i (λ d l. h d (omega arith))
 
@@ -97,10 +120,10 @@ module _ {K V N : Type 0} (pairs : N → List (K × V)) where
 
     -- ---- what concerns the pairs below one child alone
 
-    module _ (cs : List (Child K N)) (i : ℕ) (d : Child K N) (h : i < length cs) (b : IsBranch pairs IsBuilt R cs) (k : K) (s : 0 < i → is_le (R (get_or cs i d).bound k) ≡ true)
-        (e : (x : Child K N) → i + 1 < length cs → R k (get_or cs (i + 1) x).bound ≡ Less) where
-      abbrev child : Child K N
-      child = get_or cs i d
+    module _ (cs ds : List (Child K N)) (v : ds ≡ cs) (i : ℕ) (w : i < length ds) (b : IsBranch pairs IsBuilt R cs) (k : K) (s : (d : Child K N) → 0 < i → is_le (R (get_or ds i d).bound k) ≡ true)
+        (e : (d : Child K N) → i + 1 < length ds → R k (get_or ds (i + 1) d).bound ≡ Less) (child : Child K N) (is : child ≡ get_or cs i child) where
+      h : i < length cs
+      h = subst (λ (xs : List (Child K N)). i < length xs) v w
 
       abbrev before : List (K × List (K × V))
       before = parts (take i cs)
@@ -108,21 +131,26 @@ module _ {K V N : Type 0} (pairs : N → List (K × V)) where
       abbrev behind : List (K × List (K × V))
       behind = parts (drop (suc i) cs)
 
+      around : parts cs ≡ before ++ part_of child ∷ behind
+      around = parts_at cs i child h ∙ ap (λ (c : Child K N). before ++ part_of c ∷ behind) (sym is)
+
       divided : part.IsDivided R (before ++ part_of child ∷ behind)
-      divided = subst (λ (ps : List (K × List (K × V))). part.IsDivided R ps) (parts_at cs i d h) b.divided
+      divided = subst (λ (ps : List (K × List (K × V))). part.IsDivided R ps) around b.divided
 
       start : part.StartsAt R k before child.bound
-      start = starts R k cs i child.bound s
+      start = starts R k cs i child.bound (λ l. subst (λ (c : Child K N). is_le (R c.bound k) ≡ true) (sym (is ∙ ap (λ (xs : List (Child K N)). get_or xs i child) (sym v))) (s child l))
 
       end : part.EndsBefore R k behind
-      end = ends R k cs (suc i) (λ x l. subst (λ n. R k (get_or cs n x).bound ≡ Less) (add-one i) (e x (omega arith)))
+      end =
+          let f : (x : Child K N) → i + 1 < length cs → R k (get_or cs (i + 1) x).bound ≡ Less = subst (λ (xs : List (Child K N)). (x : Child K N) → i + 1 < length xs → R k (get_or xs (i + 1) x).bound ≡ Less) v e in
+          ends R k cs (suc i) (λ x l. subst (λ n. R k (get_or cs n x).bound ≡ Less) (add-one i) (f x (omega arith)))
 
       pub lookup_child : lookup (is_at (R k)) (branch_pairs pairs cs) ≡ lookup (is_at (R k)) (pairs (target child.node))
-      lookup_child = ap (λ (ps : List (K × List (K × V))). lookup (is_at (R k)) (all_pairs ps)) (parts_at cs i d h) ∙ lookup_part R o k before (part_of child) behind divided start end
+      lookup_child = ap (λ (ps : List (K × List (K × V))). lookup (is_at (R k)) (all_pairs ps)) around ∙ lookup_part R o k before (part_of child) behind divided start end
 
       pub filter_child : filter (λ (f : K × V). is_le (R k f.0)) (branch_pairs pairs cs) ≡ filter (λ (f : K × V). is_le (R k f.0)) (pairs (target child.node)) ++ branch_pairs pairs (drop (i + 1) cs)
       filter_child =
-          ap (λ (ps : List (K × List (K × V))). filter (λ (f : K × V). is_le (R k f.0)) (all_pairs ps)) (parts_at cs i d h)
+          ap (λ (ps : List (K × List (K × V))). filter (λ (f : K × V). is_le (R k f.0)) (all_pairs ps)) around
           ∙ filter_part R o k before (part_of child) behind divided start end
           ∙ ap (λ n. filter (λ (f : K × V). is_le (R k f.0)) (pairs (target child.node)) ++ branch_pairs pairs (drop n cs)) (sym (add-one i))
 
@@ -141,7 +169,7 @@ module _ {K V N : Type 0} (pairs : N → List (K × V)) where
         put_pairs q =
             ap all_pairs (parts_set cs i changed h)
             ∙ all_inserted_one R o k v before (part_of child) (pairs (target node)) behind divided start end q
-            ∙ ap (λ (ps : List (K × List (K × V))). insert_entry R (all_pairs ps) k v) (sym (parts_at cs i d h))
+            ∙ ap (λ (ps : List (K × List (K × V))). insert_entry R (all_pairs ps) k v) (sym around)
 
         module _ (right : Child K N) (q : pairs (target node) ++ pairs (target right.node) ≡ insert_entry R (pairs (target child.node)) k v) (low : pair.AreBelow R right.bound (pairs (target node))) (from : pair.AreFrom R right.bound (pairs (target right.node)))
             (f : is_filled (pairs (target node)) ≡ true) (g : is_filled (pairs (target right.node)) ≡ true) where
@@ -156,7 +184,7 @@ module _ {K V N : Type 0} (pairs : N → List (K × V)) where
           put_two_pairs =
               ap all_pairs (parts_in cs i changed right h)
               ∙ all_inserted_two R o k v before (part_of child) (pairs (target node)) right.bound (pairs (target right.node)) behind divided start end q low from f g
-              ∙ ap (λ (ps : List (K × List (K × V))). insert_entry R (all_pairs ps) k v) (sym (parts_at cs i d h))
+              ∙ ap (λ (ps : List (K × List (K × V))). insert_entry R (all_pairs ps) k v) (sym around)
 
       module _ (node : Link N) (q : pairs (target node) ≡ remove_entry (is_at (R k)) (pairs (target child.node))) where
         abbrev cut : Child K N
@@ -173,11 +201,11 @@ module _ {K V N : Type 0} (pairs : N → List (K × V)) where
         cut_pairs =
             ap all_pairs (parts_set cs i cut h)
             ∙ all_removed_one R o k before (part_of child) (pairs (target node)) behind divided start end q
-            ∙ ap (λ (ps : List (K × List (K × V))). remove_entry (is_at (R k)) (all_pairs ps)) (sym (parts_at cs i d h))
+            ∙ ap (λ (ps : List (K × List (K × V))). remove_entry (is_at (R k)) (all_pairs ps)) (sym around)
 
         removed : remove (set cs i cut) i ≡ take i cs ++ drop (suc i) cs
         removed =
-            ap (λ (xs : List (Child K N)). xs ++ drop (suc i) (set cs i cut)) (Rattle.std.proofs.lemmas.List.take-set cs i cut)
+            ap (λ (xs : List (Child K N)). xs ++ drop (suc i) (set cs i cut)) (take-set cs i cut)
             ∙ ap (λ (xs : List (Child K N)). take i cs ++ xs) (drop-set-lt (suc i) cs i cut (omega arith))
 
         pub gone_branch : IsBranch pairs IsBuilt R (remove (set cs i cut) i)
@@ -199,11 +227,12 @@ module _ {K V N : Type 0} (pairs : N → List (K × V)) where
 
     -- ---- the same pairs below one child
 
-    pub same_parts : (cs : List (Child K N)) (i : ℕ) (d : Child K N) (node : Link N) → i < length cs → pairs (target node) ≡ pairs (target (get_or cs i d).node) → parts (set cs i (record { bound = (get_or cs i d).bound; node = node })) ≡ parts cs
-    same_parts cs i d node h q =
-        parts_set cs i (record { bound = (get_or cs i d).bound; node = node }) h
-        ∙ ap (λ (es : List (K × V)). parts (take i cs) ++ ((get_or cs i d).bound, es) ∷ parts (drop (suc i) cs)) q
-        ∙ sym (parts_at cs i d h)
+    pub same_parts : (cs : List (Child K N)) (i : ℕ) (child : Child K N) (node : Link N) → i < length cs → child ≡ get_or cs i child → pairs (target node) ≡ pairs (target child.node) → parts (set cs i (record { bound = child.bound; node = node })) ≡ parts cs
+    same_parts cs i child node h e q =
+        parts_set cs i (record { bound = child.bound; node = node }) h
+        ∙ ap (λ (es : List (K × V)). parts (take i cs) ++ (child.bound, es) ∷ parts (drop (suc i) cs)) q
+        ∙ ap (λ (c : Child K N). parts (take i cs) ++ part_of c ∷ parts (drop (suc i) cs)) e
+        ∙ sym (parts_at cs i child h)
 
     pub same_branch : (cs ds : List (Child K N)) → parts ds ≡ parts cs → AllByRecursion Built ds → IsBranch pairs IsBuilt R cs → IsBranch pairs IsBuilt R ds
     same_branch cs ds e t b = record { built = t; divided = subst (λ (ps : List (K × List (K × V))). part.IsDivided R ps) (sym e) b.divided }
@@ -212,12 +241,12 @@ module _ {K V N : Type 0} (pairs : N → List (K × V)) where
 
     filled_take : (cs : List (Child K N)) (i : ℕ) → 0 < i → i < length cs → is_filled (parts (take i cs)) ≡ true
     filled_take [] i g h = absurd (omega arith)
-    filled_take (c ∷ cs) 0 g h = absurd (omega arith)
+    filled_take (c ∷ cs) zero g h = absurd (omega arith)
     filled_take (c ∷ cs) (suc i) g h = refl
 
     filled_items : (cs : List (Child K N)) (i : ℕ) → 0 < i → i < length cs → is_filled (take i cs) ≡ true
     filled_items [] i g h = absurd (omega arith)
-    filled_items (c ∷ cs) 0 g h = absurd (omega arith)
+    filled_items (c ∷ cs) zero g h = absurd (omega arith)
     filled_items (c ∷ cs) (suc i) g h = refl
 
     filled_both : (es fs : List (K × V)) → is_filled es ≡ true → is_filled (es ++ fs) ≡ true
@@ -230,7 +259,7 @@ module _ {K V N : Type 0} (pairs : N → List (K × V)) where
 
     module _ (cs : List (Child K N)) (i : ℕ) (d : Child K N) (b : IsBranch pairs IsBuilt R cs) where
       halves : parts cs ≡ parts (take i cs) ++ parts (drop i cs)
-      halves = ap parts (sym (Rattle.std.proofs.lemmas.List.take-append-drop i cs)) ∙ map-append part_of (take i cs) (drop i cs)
+      halves = ap parts (sym (take-append-drop i cs)) ∙ map-append part_of (take i cs) (drop i cs)
 
       both : part.IsDivided R (parts (take i cs) ++ parts (drop i cs))
       both = subst (λ (ps : List (K × List (K × V))). part.IsDivided R ps) halves b.divided

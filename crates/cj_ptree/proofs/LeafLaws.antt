@@ -1,5 +1,5 @@
 -- Pairs of a leaf: a split, and values edited in turn.
-use Rattle.std.proofs.Common.{◌≡◌, ◌∙◌, ℕ, suc, ◌<◌, Bool, true, false, cond, List, [], ◌∷◌, ◌++◌, length, get_or, take, drop, map, refl, ap, sym, subst, arith, ⊎_elim, Ordering, Less, Equal}
+use Rattle.std.proofs.Common.{◌≡◌, ◌∙◌, ℕ, zero, suc, ◌<◌, Bool, true, false, cond, List, [], ◌∷◌, ◌++◌, length, get_or, take, drop, map, refl, ap, sym, subst, arith, ⊎_elim, Ordering, Less, Equal}
 use Rattle.std.specs.BTreeMap.{insert_entry}
 use Rattle.std.specs.Cmp.{IsTotalOrder}
 use Rattle.std.specs.List.{AllByRecursion}
@@ -52,7 +52,7 @@ module _ {K V : Type 0} (R : K → K → Ordering) (o : IsTotalOrder R) where
 
     filled_take : (xs : List (K × V)) (n : ℕ) → 0 < n → n < length xs → is_filled (take n xs) ≡ true
     filled_take [] n g h = absurd (omega arith)
-    filled_take (x ∷ xs) 0 g h = absurd (omega arith)
+    filled_take (x ∷ xs) zero g h = absurd (omega arith)
     filled_take (x ∷ xs) (suc n) g h = refl
 
     -- what a split at the key of a pair leaves

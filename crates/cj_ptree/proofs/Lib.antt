@@ -5,3 +5,4 @@ pub mod PartLaws
 pub mod RetainLaws
 pub mod BranchLaws
 pub mod LeafLaws
+pub mod EditLaws

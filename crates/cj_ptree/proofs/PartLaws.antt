@@ -203,7 +203,7 @@ module _ {K V : Type 0} (R : K → K → Ordering) (o : IsTotalOrder R) where
     follows_two (a ∷ xs) x y =
         let from : AreFrom p.0 (es ++ fs) = subst (λ (ds : List (K × V)). AreFrom p.0 ds) (sym e) (from_put k v a xs p bs x y) in
         let first : AreFrom p.0 es = each_front (λ (d : K × V). is_le (R p.0 d.0) ≡ true) es fs from in
-        ((ap is_le (tied_itself o p.0), first), (ap is_le (bound_less R o p.0 m es g first b), f), tt)
+        ((ap is_le (tied_itself o p.0), first), ((ap is_le (bound_less R o p.0 m es g first b), f), tt))
 
     pub inserted_two : IsDivided (ls ++ (p.0, es) ∷ (m, fs) ∷ bs)
     inserted_two = replaced ls p ((p.0, es) ∷ (m, fs) ∷ []) bs h two_divided (follows_two ls h s)

@@ -1,5 +1,5 @@
 -- Where a key belongs among pairs in rising key.
-use Rattle.std.proofs.Common.{◌≡◌, ◌∙◌, ℕ, suc, ◌+◌, ◌-◌, ◌<◌, ◌≤◌, true, List, [], ◌∷◌, ◌++◌, length, get_or, set, take, drop, refl, ap, sym, subst, arith, Ordering, Less, Equal, Greater, is_eq}
+use Rattle.std.proofs.Common.{◌≡◌, ◌∙◌, ℕ, zero, suc, ◌+◌, ◌-◌, ◌<◌, ◌≤◌, Bool, true, false, cond, List, [], ◌∷◌, ◌++◌, length, get_or, set, take, drop, refl, ap, sym, subst, arith, ⊎_elim, Ordering, Less, Equal, Greater, is_eq}
 use Rattle.std.specs.BTreeMap.{insert_entry, is_at}
 use Rattle.std.specs.Cmp.{IsTotalOrder}
 use Rattle.std.specs.List.{AllByRecursion}
@@ -7,7 +7,7 @@ use Rattle.std.specs.Map.{lookup, remove_entry}
 use Rattle.std.specs.Ordering.{match_ordering}
 use Rattle.std.specs.declared.option.Option.{Option}
 use Rattle.std.specs.declared.option.Option.TheVariants.{None, Some}
-use Rattle.std.proofs.lemmas.Bool.{cond-true}
+use Rattle.std.proofs.lemmas.Bool.{cases_Bool, cond-true}
 use Rattle.std.specs.Ordering.{is_le}
 use Rattle.std.specs.Prelude.{filter}
 use Rattle.std.proofs.lemmas.List.{length-drop, set-get_or, set_split, take-append-drop, take_all}
@@ -15,18 +15,26 @@ use Rattle.cj_ptree.specs.Pairs as pair
 use Rattle.cj_ptree.proofs.OrderLaws.{each_both, greater_back}
 use Rattle.cj_ptree.proofs.ZoneLaws.{above_less, above_tied, below_less, below_tied, filter_from, from_above, insert_between, lookup_between, remove_between, rise_back, rise_below}
 
+-- a key that is not there is removed already
+pub remove_absent : {K V : Type 0} (t : K → Bool) (es : List (K × V)) → lookup t es ≡ None → es ≡ remove_entry t es
+remove_absent t [] h = refl
+remove_absent {K} {V} t (e ∷ es) h = ⊎_elim
+    (λ (y : t e.0 ≡ true). cc (sym h ∙ ap (λ z. cond z (Some e.1) (lookup t es)) y))
+    (λ (n : t e.0 ≡ false). ap (λ (xs : List (K × V)). e ∷ xs) (remove_absent t es (sym (ap (λ z. cond z (Some e.1) (lookup t es)) n) ∙ h)) ∙ sym (ap (λ z. cond z es (e ∷ remove_entry t es)) n))
+    (cases_Bool (t e.0))
+
 -- a list round the item at an index
 pub split_at : {X : Type 0} (xs : List X) (i : ℕ) (d : X) → i < length xs → xs ≡ take i xs ++ get_or xs i d ∷ drop (suc i) xs
 split_at xs i d h = sym (set-get_or xs i d) ∙ set_split xs i (get_or xs i d) h
 
 pub drop_at_index : {X : Type 0} (xs : List X) (i : ℕ) (d : X) → i < length xs → drop i xs ≡ get_or xs i d ∷ drop (suc i) xs
 drop_at_index [] i d h = absurd (omega arith)
-drop_at_index (x ∷ xs) 0 d h = refl
+drop_at_index (x ∷ xs) zero d h = refl
 drop_at_index (x ∷ xs) (suc i) d h = drop_at_index xs i d (omega arith)
 
 pub take_suc : {X : Type 0} (xs : List X) (i : ℕ) (d : X) → i < length xs → take (suc i) xs ≡ take i xs ++ get_or xs i d ∷ []
 take_suc [] i d h = absurd (omega arith)
-take_suc (x ∷ xs) 0 d h = refl
+take_suc (x ∷ xs) zero d h = refl
 take_suc (x ∷ xs) (suc i) d h = ap (λ (ys : List _). x ∷ ys) (take_suc xs i d (omega arith))
 
 -- the items from an index on, as a slice has them
@@ -77,6 +85,14 @@ module _ {K V : Type 0} (R : K → K → Ordering) (o : IsTotalOrder R) where
         sym (ap (remove_entry (is_at (R k))) (split_at es i d h.within)
         ∙ remove_between R o k (take i es) (get_or es i d ∷ []) (drop (suc i) es) h.below h.above
         ∙ ap (λ (fs : List (K × V)). take i es ++ (fs ++ drop (suc i) es)) (cond-true _ _ _ (ap is_eq (h.same d))))
+
+  -- the pair at the index with another value
+  pub set_hit : (k : K) (es : List (K × V)) (i : ℕ) → pair.IsHit R k es i → (e : K × V) (v w : V) → e ≡ get_or es i e → w ≡ v → set es i (e.0, w) ≡ insert_entry R es k v
+  set_hit k es i h e v w q r =
+      set_split es i (e.0, w) h.within
+      ∙ ap (λ (x : V). take i es ++ (e.0, x) ∷ drop (suc i) es) r
+      ∙ ap (λ (x : K × V). take i es ++ (x.0, v) ∷ drop (suc i) es) q
+      ∙ insert_hit k es i h e v
 
   -- ---- where no pair has the key
 

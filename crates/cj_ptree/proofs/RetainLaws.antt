@@ -4,7 +4,6 @@ use Rattle.std.specs.List.{AllByRecursion}
 use Rattle.std.specs.Ordering.{is_le}
 use Rattle.std.specs.Prelude.{filter}
 use Rattle.std.proofs.lemmas.Bool.{cases_Bool, cond-false, cond-true}
-use Rattle.std.proofs.lemmas.List.{append_assoc}
 use Rattle.cj_ptree.specs.Pairs as pair
 use Rattle.cj_ptree.specs.Pairs.{is_filled, retained}
 use Rattle.cj_ptree.specs.Parts as part

@@ -81,12 +81,13 @@ impl<K: Ord + Duplicate + Drop, N: Drop> Branch<K, N> {
         let place = child_of(&self.children, &key);
         let added = insert_below(&mut self.children[place].node, alloc, key, value)?;
         let Added { old, right } = added;
-        if let Some((bound, node)) = right {
-            let node = Link::of(alloc, node);
-            let Ok(()) = self.children.insert(place + 1, Child { bound, node }) else {
-                unreachable!()
-            };
-        }
+        let Some((bound, node)) = right else {
+            return Ok(old);
+        };
+        let node = Link::of(alloc, node);
+        let Ok(()) = self.children.insert(place + 1, Child { bound, node }) else {
+            unreachable!()
+        };
         Ok(old)
     }
 
@@ -184,9 +185,10 @@ impl<K: Ord + Duplicate + Drop, V: Drop, N: Node<K, V>> Node<K, V> for Branch<K,
         }
         let place = child_of(&self.children, key);
         let old = remove_below(&mut self.children[place].node, alloc, key)?;
-        if !self.children[place].node.node().is_filled() {
-            self.children.remove(place);
+        if self.children[place].node.node().is_filled() {
+            return Ok(old);
         }
+        self.children.remove(place);
         Ok(old)
     }
 

@@ -74,26 +74,32 @@ pub(crate) fn share<K: Ord, V, N: Node<K, V>>(link: &mut Link<N>, alloc: Global)
     };
 }
 
+/// Whether no other tree shares the node.
+fn is_alone<N>(link: &mut Link<N>) -> bool
+    ensures { target link.new ≡ target link.old }
+{
+    match link {
+        Link::Own(_) => true,
+        Link::Shared(shared) => match Arc::get_mut(shared) {
+            Some(_) => true,
+            None => false,
+        },
+    }
+}
+
 /// Copies the node if other trees share it, so that it can be changed in place.
 pub(crate) fn ready<K: Ord, V, N: Node<K, V>>(link: &mut Link<N>, alloc: Global) -> Result<(), NoMemory>
     requires { N.IsBuilt (target link.old) }
     ensures pairs { N.pairs (target link.new) ≡ N.pairs (target link.old) }
     ensures built { N.IsBuilt (target link.new) }
 {
-    match link {
-        Link::Own(_) => {
-            share(link, alloc);
-            Ok(())
-        }
-        Link::Shared(shared) => match Arc::get_mut(shared) {
-            Some(_) => Ok(()),
-            None => {
-                let node = shared.copied(alloc)?;
-                *link = Link::of(alloc, node);
-                Ok(())
-            }
-        },
+    if is_alone(link) {
+        share(link, alloc);
+        return Ok(());
     }
+    let node = link.node().copied(alloc)?;
+    *link = Link::of(alloc, node);
+    Ok(())
 }
 
 /// Puts a pair below a link, as a node does.

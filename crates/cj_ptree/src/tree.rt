@@ -86,9 +86,9 @@ impl<K: Ord + Duplicate + Drop, V: Duplicate + Drop> PTree<K, V> {
         ensures ok { OnOk result (self.new ≡ remove_entry (is_at (K.cmp key.now)) self.old) }
         ensures err { OnErr result (self.new ≡ self.old) }
     {
-        if self.get(key).is_none() {
+        let Some(_) = self.get(key) else {
             return Ok(None);
-        }
+        };
         remove_below(&mut self.root, self.alloc, key)
     }
 

@@ -1,11 +1,14 @@
-use Rattle.std.proofs.Common.{rules, ◌≡◌, [], ◌∷◌, IfOk, OnOk, OnErr, ℕ, ◌+◌, ◌-◌, ◌*◌, ◌<◌, ◌≤◌, length, ◌/◌, ◌%◌, Bool, true, false, nat_eq, nat_lt, List, ◌++◌, slice_index_or, slice_set, bit_and, bit_or, Fits, w8, w32, w64, Bor, MutBor}
-use Rattle.std.specs.BTreeMap.{insert_entry, is_at}
+use Rattle.std.proofs.Common.{◌∙◌, ap, sym}
+use Rattle.std.specs.BTreeMap.{is_at}
 use Rattle.std.specs.Map.{lookup}
-use Rattle.cj_ptree.specs.Branches.{IsBranch, OwnsBranch, branch_pairs, part_of}
-use Rattle.cj_ptree.specs.Links.{target}
-use Rattle.cj_ptree.specs.Nodes.{SplitsOff}
+use Rattle.cj_ptree.proofs.BranchLaws.{lookup_child}
 use Rattle.cj_ptree.proofs.branch.BranchNode.find.Goals as goal
 
--- src/branch.rt:160:5
 pub returns : goal.returns
-returns g c = ?
+returns g c =
+    let R = g.K.Ord.cmp in
+    let k = c.args.key.now in
+    c.find.ensures
+    ∙ ap (λ (n : g.row.N.Denot). lookup (is_at (R k)) (g.N.Node.pairs n)) c.node.ensures
+    ∙ sym (lookup_child g.N.Node.pairs g.N.Node.IsBuilt R g.met.K.Ord.total c.args.self.now.children.items c.deref.result.now c.deref.ensures.value c.child_of-place.result c.child_of-place.ensures.within c.requires k
+    c.child_of-place.ensures.start c.child_of-place.ensures.end c.index.result.now c.index.ensures)

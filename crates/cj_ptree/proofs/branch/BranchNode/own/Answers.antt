@@ -1,19 +1,42 @@
-use Rattle.std.proofs.Common.{rules, ◌≡◌, [], ◌∷◌, IfOk, OnOk, OnErr, ℕ, ◌+◌, ◌-◌, ◌*◌, ◌<◌, ◌≤◌, length, ◌/◌, ◌%◌, Bool, true, false, nat_eq, nat_lt, List, ◌++◌, slice_index_or, slice_set, bit_and, bit_or, Fits, w8, w32, w64, Bor, MutBor}
-use Rattle.std.specs.BTreeMap.{insert_entry, is_at}
-use Rattle.std.specs.Map.{lookup}
-use Rattle.cj_ptree.specs.Branches.{IsBranch, OwnsBranch, branch_pairs, part_of}
-use Rattle.cj_ptree.specs.Links.{target}
-use Rattle.cj_ptree.specs.Nodes.{SplitsOff}
+use Rattle.std.proofs.Common.{◌∙◌, ◌<◌, length, ap, arith, set}
+use Rattle.cj_ptree.specs.declared.child.Child.{Child}
+use Rattle.cj_ptree.specs.Links.{OwnsNode, target}
+use Rattle.cj_ptree.specs.Parts.{all_pairs}
+use Rattle.cj_ptree.proofs.BranchLaws.{each_more, each_set, same_branch, same_parts}
 use Rattle.cj_ptree.proofs.branch.BranchNode.own.Goals as goal
 
--- src/branch.rt:203:13
 pub returns-in_err-own_below-clause-pairs : goal.returns-in_err-own_below-clause-pairs
-returns-in_err-own_below-clause-pairs g c = ?
+returns-in_err-own_below-clause-pairs g c =
+    let cs = c.loop-place.self.children.items in
+    let i = c.loop-place.place in
+    let h : i < length cs = omega (arith, c.loop-place.self.children.ok.0) in
+    ap all_pairs
+    (same_parts g.N.Node.pairs g.N.Node.IsBuilt g.K.Ord.cmp g.met.K.Ord.total cs i c.index_mut.result.now c.own_below.new.link h c.index_mut.ensures.value c.own_below.ensures.pairs ∙ c.loop-place.invariant.parts)
 
--- src/branch.rt:203:13
 pub returns-in_err-own_below-clause-built : goal.returns-in_err-own_below-clause-built
-returns-in_err-own_below-clause-built g c = ?
+returns-in_err-own_below-clause-built g c =
+    let cs = c.loop-place.self.children.items in
+    let i = c.loop-place.place in
+    let child = c.index_mut.result.now in
+    let node = c.own_below.new.link in
+    let h : i < length cs = omega (arith, c.loop-place.self.children.ok.0) in
+    let changed : Child g.row.K.Denot g.row.N.Denot = record { bound = child.bound; node = node } in
+    same_branch g.N.Node.pairs g.N.Node.IsBuilt g.K.Ord.cmp g.met.K.Ord.total c.args.self.now.children.items (set cs i changed)
+    (same_parts g.N.Node.pairs g.N.Node.IsBuilt g.K.Ord.cmp g.met.K.Ord.total cs i child node h c.index_mut.ensures.value c.own_below.ensures.pairs ∙ c.loop-place.invariant.parts)
+    (each_set (λ (x : Child g.row.K.Denot g.row.N.Denot). g.N.Node.IsBuilt (target x.node)) cs i changed c.own_below.ensures.built c.loop-place.invariant.built)
+    c.requires
 
--- src/branch.rt:202:9
 pub loop-place-preserved : goal.loop-place-preserved
-loop-place-preserved g c = ?
+loop-place-preserved g c =
+    let cs = c.loop-place.self.children.items in
+    let i = c.loop-place.place in
+    let child = c.index_mut.result.now in
+    let node = c.own_below.new.link in
+    let h : i < length cs = omega (arith, c.loop-place.self.children.ok.0) in
+    let changed : Child g.row.K.Denot g.row.N.Denot = record { bound = child.bound; node = node } in
+    record {
+      parts = same_parts g.N.Node.pairs g.N.Node.IsBuilt g.K.Ord.cmp g.met.K.Ord.total cs i child node h c.index_mut.ensures.value c.own_below.ensures.pairs ∙ c.loop-place.invariant.parts;
+      built = each_set (λ (x : Child g.row.K.Denot g.row.N.Denot). g.N.Node.IsBuilt (target x.node)) cs i changed c.own_below.ensures.built c.loop-place.invariant.built;
+      owned = each_more (λ (x : Child g.row.K.Denot g.row.N.Denot). OwnsNode g.N.Node.IsOwned x.node) cs i changed h c.in_ok-own_below.ensures.owned c.loop-place.invariant.owned;
+      len = c.loop-place.invariant.len;
+    }

@@ -1,11 +1,18 @@
-use Rattle.std.proofs.Common.{rules, ◌≡◌, [], ◌∷◌, IfOk, OnOk, OnErr, ℕ, ◌+◌, ◌-◌, ◌*◌, ◌<◌, ◌≤◌, length, ◌/◌, ◌%◌, Bool, true, false, nat_eq, nat_lt, List, ◌++◌, slice_index_or, slice_set, bit_and, bit_or, Fits, w8, w32, w64, Bor, MutBor}
-use Rattle.std.specs.BTreeMap.{insert_entry, is_at}
-use Rattle.std.specs.Map.{lookup}
-use Rattle.cj_ptree.specs.Branches.{IsBranch, OwnsBranch, branch_pairs, part_of}
+use Rattle.std.proofs.Common.{◌∙◌, ◌<◌, length, arith}
+use Rattle.cj_ptree.specs.declared.child.Child.{Child}
 use Rattle.cj_ptree.specs.Links.{target}
-use Rattle.cj_ptree.specs.Nodes.{SplitsOff}
+use Rattle.cj_ptree.proofs.BranchLaws.{each_set, same_parts}
 use Rattle.cj_ptree.proofs.branch.BranchNode.share.Goals as goal
 
--- src/branch.rt:209:9
 pub loop-place-preserved : goal.loop-place-preserved
-loop-place-preserved g c = ?
+loop-place-preserved g c =
+    let cs = c.loop-place.self.children.items in
+    let i = c.loop-place.place in
+    let child = c.index_mut.result.now in
+    let node = c.share_below.new.link in
+    let h : i < length cs = omega (arith, c.loop-place.self.children.ok.0) in
+    record {
+      parts = same_parts g.N.Node.pairs g.N.Node.IsBuilt g.K.Ord.cmp g.met.K.Ord.total cs i child node h c.index_mut.ensures.value c.share_below.ensures.pairs ∙ c.loop-place.invariant.parts;
+      built = each_set (λ (x : Child g.row.K.Denot g.row.N.Denot). g.N.Node.IsBuilt (target x.node)) cs i (record { bound = child.bound; node = node }) c.share_below.ensures.built c.loop-place.invariant.built;
+      len = c.loop-place.invariant.len;
+    }
