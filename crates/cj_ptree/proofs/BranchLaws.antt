@@ -1,21 +1,24 @@
 -- Children of a branch: where a key belongs among them, and what a change below one of them keeps.
-use Rattle.std.proofs.Common.{◌≡◌, ◌∙◌, ℕ, zero, suc, ◌+◌, ◌<◌, true, false, List, [], ◌∷◌, ◌++◌, length, get_or, set, take, drop, map, refl, ap, sym, subst, arith, add-one, Ordering, Less}
+use Rattle.std.proofs.Common.{◌≡◌, ◌∙◌, ℕ, zero, suc, ◌+◌, ◌<◌, Bool, true, false, List, [], ◌∷◌, ◌++◌, length, get_or, set, take, drop, map, refl, ap, sym, subst, arith, add-one, Ordering, Less}
 use Rattle.std.specs.BTreeMap.{insert_entry, is_at}
 use Rattle.std.specs.Cmp.{IsTotalOrder}
 use Rattle.std.specs.List.{AllByRecursion, insert, remove}
 use Rattle.std.specs.Map.{lookup, remove_entry}
 use Rattle.std.specs.Result.{OnErr}
+use Rattle.std.specs.declared.option.Option.{Option}
+use Rattle.std.specs.declared.option.Option.TheVariants.{None, Some}
 use Rattle.std.specs.declared.result.Result.{Result}
 use Rattle.std.specs.declared.result.Result.TheVariants.{Err, Ok}
 use Rattle.std.specs.Ordering.{is_le}
 use Rattle.std.specs.Prelude.{filter}
-use Rattle.std.proofs.lemmas.List.{append_assoc, drop-set-lt, map-append, set_split, take-append-drop, take-map, take-set, take_more_set}
+use Rattle.std.proofs.lemmas.List.{append-nil, append_assoc, drop-set-lt, get_or-set_same, map-append, set_split, take-append-drop, take-map, take-set, take_more_set}
 use Rattle.std.proofs.lemmas.List.Concat.{flat_map-append}
 use Rattle.cj_ptree.specs.declared.child.Child.{Child}
 use Rattle.cj_ptree.specs.declared.link.Link.{Link}
 use Rattle.cj_ptree.specs.Branches as branch
 use Rattle.cj_ptree.specs.Branches.{IsBranch, branch_pairs}
 use Rattle.cj_ptree.specs.Links.{target}
+use Rattle.cj_ptree.specs.Nodes.{IsSplit, right_pairs}
 use Rattle.cj_ptree.specs.Pairs as pair
 use Rattle.cj_ptree.specs.Pairs.{is_filled}
 use Rattle.cj_ptree.specs.Parts as part
@@ -95,6 +98,14 @@ module _ {K V N : Type 0} (pairs : N → List (K × V)) where
       ∙ sym (take-map part_of (suc i) cs)
       ∙ ap (λ n. take n (parts cs)) (sym (add-one i))
 
+  -- a child that was set is read back
+  pub filled_set : (cs : List (Child K N)) (i : ℕ) (c d : Child K N) (n : N) (z : Bool) → i < length cs → d ≡ get_or (set cs i c) i d → n ≡ target d.node → z ≡ is_filled (pairs n) → is_filled (pairs (target c.node)) ≡ z
+  filled_set cs i c d n z h e f g = sym (g ∙ ap (λ (m : N). is_filled (pairs m)) (f ∙ ap (λ (x : Child K N). target x.node) (e ∙ get_or-set_same cs i c d h)))
+
+  -- nothing was split off
+  pub put_alone : (n : N) (right : Option (K × N)) (es : List (K × V)) → right ≡ None → pairs n ++ right_pairs pairs right ≡ es → pairs n ≡ es
+  put_alone n right es e h = sym (append-nil (pairs n)) ∙ ap (λ (r : Option (K × N)). pairs n ++ right_pairs pairs r) (sym e) ∙ h
+
   -- one child out of a list that another was set in before
   pub parts_out : (cs : List (Child K N)) (i : ℕ) (c : Child K N) → i < length cs → parts (remove (set cs i c) i) ≡ parts (take i cs) ++ parts (drop (suc i) cs)
   parts_out cs i c h =
@@ -120,10 +131,10 @@ module _ {K V N : Type 0} (pairs : N → List (K × V)) where
 
     -- ---- what concerns the pairs below one child alone
 
-    module _ (cs ds : List (Child K N)) (v : ds ≡ cs) (i : ℕ) (w : i < length ds) (b : IsBranch pairs IsBuilt R cs) (k : K) (s : (d : Child K N) → 0 < i → is_le (R (get_or ds i d).bound k) ≡ true)
+    module _ (cs ds : List (Child K N)) (r : ds ≡ cs) (i : ℕ) (w : i < length ds) (b : IsBranch pairs IsBuilt R cs) (k : K) (s : (d : Child K N) → 0 < i → is_le (R (get_or ds i d).bound k) ≡ true)
         (e : (d : Child K N) → i + 1 < length ds → R k (get_or ds (i + 1) d).bound ≡ Less) (child : Child K N) (is : child ≡ get_or cs i child) where
       h : i < length cs
-      h = subst (λ (xs : List (Child K N)). i < length xs) v w
+      h = subst (λ (xs : List (Child K N)). i < length xs) r w
 
       abbrev before : List (K × List (K × V))
       before = parts (take i cs)
@@ -138,11 +149,11 @@ module _ {K V N : Type 0} (pairs : N → List (K × V)) where
       divided = subst (λ (ps : List (K × List (K × V))). part.IsDivided R ps) around b.divided
 
       start : part.StartsAt R k before child.bound
-      start = starts R k cs i child.bound (λ l. subst (λ (c : Child K N). is_le (R c.bound k) ≡ true) (sym (is ∙ ap (λ (xs : List (Child K N)). get_or xs i child) (sym v))) (s child l))
+      start = starts R k cs i child.bound (λ l. subst (λ (c : Child K N). is_le (R c.bound k) ≡ true) (sym (is ∙ ap (λ (xs : List (Child K N)). get_or xs i child) (sym r))) (s child l))
 
       end : part.EndsBefore R k behind
       end =
-          let f : (x : Child K N) → i + 1 < length cs → R k (get_or cs (i + 1) x).bound ≡ Less = subst (λ (xs : List (Child K N)). (x : Child K N) → i + 1 < length xs → R k (get_or xs (i + 1) x).bound ≡ Less) v e in
+          let f : (x : Child K N) → i + 1 < length cs → R k (get_or cs (i + 1) x).bound ≡ Less = subst (λ (xs : List (Child K N)). (x : Child K N) → i + 1 < length xs → R k (get_or xs (i + 1) x).bound ≡ Less) r e in
           ends R k cs (suc i) (λ x l. subst (λ n. R k (get_or cs n x).bound ≡ Less) (add-one i) (f x (omega arith)))
 
       pub lookup_child : lookup (is_at (R k)) (branch_pairs pairs cs) ≡ lookup (is_at (R k)) (pairs (target child.node))
@@ -185,6 +196,24 @@ module _ {K V N : Type 0} (pairs : N → List (K × V)) where
               ap all_pairs (parts_in cs i changed right h)
               ∙ all_inserted_two R o k v before (part_of child) (pairs (target node)) right.bound (pairs (target right.node)) behind divided start end q low from f g
               ∙ ap (λ (ps : List (K × List (K × V))). insert_entry R (all_pairs ps) k v) (sym around)
+
+        -- a node that was split off the child, behind a link
+        abbrev Splits : Option (K × N) → Type 0
+        Splits right = (pairs (target node) ++ right_pairs pairs right ≡ insert_entry R (pairs (target child.node)) k v) × IsSplit pairs IsBuilt R (pairs (target node)) right
+
+        module _ (bound : K) (n : N) (link : Link N) (t : target link ≡ n) (right : Option (K × N)) (z : right ≡ Some (bound, n)) (q : pairs (target node) ++ right_pairs pairs right ≡ insert_entry R (pairs (target child.node)) k v)
+            (p : IsSplit pairs IsBuilt R (pairs (target node)) right) where
+          split : Splits (Some (bound, target link))
+          split = subst (λ (m : N). Splits (Some (bound, m))) (sym t) (subst (λ (x : Option (K × N)). Splits x) z (q, p))
+
+          abbrev behind_it : Child K N
+          behind_it = record { bound = bound; node = link }
+
+          pub two_branch : IsBuilt (target node) → IsBranch pairs IsBuilt R (insert (set cs i changed) (i + 1) behind_it)
+          two_branch y = put_two_branch behind_it split.0 split.1.0 split.1.1 split.1.2 split.1.3 y split.1.4
+
+          pub two_pairs : branch_pairs pairs (insert (set cs i changed) (i + 1) behind_it) ≡ insert_entry R (branch_pairs pairs cs) k v
+          two_pairs = put_two_pairs behind_it split.0 split.1.0 split.1.1 split.1.2 split.1.3
 
       module _ (node : Link N) (q : pairs (target node) ≡ remove_entry (is_at (R k)) (pairs (target child.node))) where
         abbrev cut : Child K N
