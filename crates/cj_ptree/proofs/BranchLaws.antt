@@ -1,5 +1,5 @@
 -- Children of a branch: where a key belongs among them, and what a change below one of them keeps.
-use Rattle.std.proofs.Common.{◌≡◌, ◌∙◌, ℕ, zero, suc, ◌+◌, ◌<◌, Bool, true, false, List, [], ◌∷◌, ◌++◌, length, get_or, set, take, drop, map, refl, ap, sym, subst, arith, add-one, Ordering, Less}
+use Rattle.std.proofs.Common.{◌≡◌, ◌∙◌, ℕ, zero, suc, ◌+◌, ◌<◌, Bool, true, List, [], ◌∷◌, ◌++◌, length, get_or, set, take, drop, map, refl, ap, sym, subst, arith, add-one, Ordering, Less}
 use Rattle.std.specs.BTreeMap.{insert_entry, is_at}
 use Rattle.std.specs.Cmp.{IsTotalOrder}
 use Rattle.std.specs.List.{AllByRecursion, insert, remove}
@@ -173,7 +173,7 @@ module _ {K V N : Type 0} (pairs : N → List (K × V)) where
         put_branch t q = record {
           built = each_set Built cs i changed t b.built;
           divided = subst (λ (ps : List (K × List (K × V))). part.IsDivided R ps) (sym (parts_set cs i changed h))
-          (inserted_one R o k v before (part_of child) (pairs (target node)) behind divided start end q);
+              (inserted_one R o k v before (part_of child) (pairs (target node)) behind divided start end q);
         }
 
         pub put_pairs : pairs (target node) ≡ insert_entry R (pairs (target child.node)) k v → branch_pairs pairs (set cs i changed) ≡ insert_entry R (branch_pairs pairs cs) k v
@@ -188,7 +188,7 @@ module _ {K V N : Type 0} (pairs : N → List (K × V)) where
           put_two_branch t u = record {
             built = each_in Built (set cs i changed) (i + 1) right u (each_set Built cs i changed t b.built);
             divided = subst (λ (ps : List (K × List (K × V))). part.IsDivided R ps) (sym (parts_in cs i changed right h))
-            (inserted_two R o k v before (part_of child) (pairs (target node)) right.bound (pairs (target right.node)) behind divided start end q low from f g);
+                (inserted_two R o k v before (part_of child) (pairs (target node)) right.bound (pairs (target right.node)) behind divided start end q low from f g);
           }
 
           pub put_two_pairs : branch_pairs pairs (insert (set cs i changed) (i + 1) right) ≡ insert_entry R (branch_pairs pairs cs) k v
@@ -223,7 +223,7 @@ module _ {K V N : Type 0} (pairs : N → List (K × V)) where
         cut_branch t f = record {
           built = each_set Built cs i cut t b.built;
           divided = subst (λ (ps : List (K × List (K × V))). part.IsDivided R ps) (sym (parts_set cs i cut h))
-          (removed_one R o k before (part_of child) (pairs (target node)) behind divided q f);
+              (removed_one R o k before (part_of child) (pairs (target node)) behind divided q f);
         }
 
         pub cut_pairs : branch_pairs pairs (set cs i cut) ≡ remove_entry (is_at (R k)) (branch_pairs pairs cs)
@@ -240,7 +240,7 @@ module _ {K V N : Type 0} (pairs : N → List (K × V)) where
         pub gone_branch : IsBranch pairs IsBuilt R (remove (set cs i cut) i)
         gone_branch = record {
           built = subst (λ (xs : List (Child K N)). AllByRecursion Built xs) (sym removed)
-          (each_both Built (take i cs) (drop (suc i) cs) (each_take Built cs i b.built) (each_drop Built cs (suc i) b.built));
+              (each_both Built (take i cs) (drop (suc i) cs) (each_take Built cs i b.built) (each_drop Built cs (suc i) b.built));
           divided = subst (λ (ps : List (K × List (K × V))). part.IsDivided R ps) (sym (parts_out cs i cut h)) (removed_all R o before (part_of child) behind divided);
         }
 

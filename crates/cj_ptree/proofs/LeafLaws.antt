@@ -1,5 +1,5 @@
 -- Pairs of a leaf: a split, and values edited in turn.
-use Rattle.std.proofs.Common.{◌≡◌, ◌∙◌, ℕ, zero, suc, ◌<◌, Bool, true, false, cond, List, [], ◌∷◌, ◌++◌, length, get_or, take, drop, map, refl, ap, sym, subst, arith, ⊎_elim, Ordering, Less, Equal}
+use Rattle.std.proofs.Common.{◌≡◌, ◌∙◌, ℕ, zero, suc, ◌<◌, Bool, true, false, List, [], ◌∷◌, ◌++◌, length, get_or, take, drop, map, refl, ap, sym, subst, arith, ⊎_elim, Ordering, Less}
 use Rattle.std.specs.BTreeMap.{insert_entry}
 use Rattle.std.specs.Cmp.{IsTotalOrder}
 use Rattle.std.specs.List.{AllByRecursion}
@@ -63,14 +63,17 @@ module _ {K V : Type 0} (R : K → K → Ordering) (o : IsTotalOrder R) where
         let at : drop i es ≡ get_or es i d ∷ drop (suc i) es = drop_at_index es i d h in
         subst (λ (xs : List (K × V)). Halves xs rs m) (sym l)
         (subst (λ (xs : List (K × V)). Halves (take i es) xs m) (sym r)
-        (subst (λ (x : K). Halves (take i es) (drop i es) x) (sym e)
-        (take-append-drop i es,
-        (rise_below R o (take i es) (get_or es i d) (drop (suc i) es) around,
-        subst (λ (xs : List (K × V)). pair.AreFrom R (get_or es i d).0 xs) (sym at) (ap is_le (tied_itself o (get_or es i d).0), from_above R o (get_or es i d).0 (drop (suc i) es) high.0),
-        filled_take es i g h,
-        ap is_filled at,
-        subst (λ (xs : List (K × V)). pair.PairsRise R xs) (sym at) high),
-        rise_front R o (take i es) (get_or es i d ∷ drop (suc i) es) around)))
+        (subst (λ (x : K). Halves (take i es) (drop i es) x) (sym e) (
+          take-append-drop i es,
+          (
+            rise_below R o (take i es) (get_or es i d) (drop (suc i) es) around,
+            subst (λ (xs : List (K × V)). pair.AreFrom R (get_or es i d).0 xs) (sym at) (ap is_le (tied_itself o (get_or es i d).0), from_above R o (get_or es i d).0 (drop (suc i) es) high.0),
+            filled_take es i g h,
+            ap is_filled at,
+            subst (λ (xs : List (K × V)). pair.PairsRise R xs) (sym at) high,
+          ),
+          rise_front R o (take i es) (get_or es i d ∷ drop (suc i) es) around,
+        )))
 
   -- a pair behind all others
   module _ (k : K) (v : V) (es : List (K × V)) (i : ℕ) (h : pair.IsGap R k es i) (z : i ≡ length es) where

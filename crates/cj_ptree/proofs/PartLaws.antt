@@ -1,22 +1,20 @@
 -- Pairs divided into parts: where a key belongs among them, and what a change of one part keeps.
-use Rattle.std.proofs.Common.{◌≡◌, ◌∙◌, ℕ, true, false, Bool, cond, List, [], ◌∷◌, ◌++◌, refl, ap, sym, subst, Ordering, Less, Equal, Greater, map}
+use Rattle.std.proofs.Common.{◌≡◌, ◌∙◌, true, List, [], ◌∷◌, ◌++◌, ap, sym, subst, Ordering, Less}
 use Rattle.std.specs.BTreeMap.{insert_entry, is_at}
 use Rattle.std.specs.Cmp.{IsTotalOrder}
-use Rattle.std.specs.List.{AllByRecursion, flat_map}
+use Rattle.std.specs.List.{AllByRecursion}
 use Rattle.std.specs.Map.{lookup, remove_entry}
 use Rattle.std.specs.Ordering.{is_le}
 use Rattle.std.specs.Prelude.{⊤, filter}
-use Rattle.std.specs.declared.option.Option.{Option}
-use Rattle.std.specs.declared.option.Option.TheVariants.{None, Some}
 use Rattle.std.proofs.lemmas.Cmp.{tied_itself}
-use Rattle.std.proofs.lemmas.List.{append-nil, append_assoc, map-append}
+use Rattle.std.proofs.lemmas.List.{append-nil, append_assoc}
 use Rattle.std.proofs.lemmas.List.Concat.{flat_map-append}
 use Rattle.cj_ptree.specs.Pairs as pair
 use Rattle.cj_ptree.specs.Pairs.{is_filled, retained}
 use Rattle.cj_ptree.specs.Parts as part
 use Rattle.cj_ptree.specs.Parts.{all_pairs}
-use Rattle.cj_ptree.proofs.OrderLaws.{each_back, each_both, each_front, each_joint, each_weaker, less_le}
-use Rattle.cj_ptree.proofs.ZoneLaws.{above_from, below_insert, below_le, bound_less, each_remove, each_retained, filled_insert, filter_between, from_above, from_insert, insert_between, lookup_between, remove_between, rise_back, rise_both, rise_front, rise_insert, rise_remove, rise_retained}
+use Rattle.cj_ptree.proofs.OrderLaws.{each_back, each_both, each_front, each_joint, each_weaker}
+use Rattle.cj_ptree.proofs.ZoneLaws.{above_from, below_insert, below_le, bound_less, each_remove, filled_insert, filter_between, from_above, from_insert, insert_between, lookup_between, remove_between, rise_back, rise_both, rise_front, rise_insert, rise_remove}
 
 module _ {K V : Type 0} where
   -- the pairs of all parts round one of them
@@ -132,10 +130,12 @@ module _ {K V : Type 0} (R : K → K → Ordering) (o : IsTotalOrder R) where
   replaced [] p news bs h n f = n
   replaced (a ∷ ls) p news bs h n f =
       let back : AllByRecursion (IsAfter a.1) (p ∷ bs) = each_back (IsAfter a.1) ls (p ∷ bs) h.2 in
-      let middle : AllByRecursion (IsAfter a.1) news = each_weaker (λ (q : K × List (K × V)). (is_le (R p.0 q.0) ≡ true) × AreFrom q.0 q.1) (IsAfter a.1) (λ q g. (below_le R o p.0 q.0 a.1 g.0 back.0.0, g.1)) news f in
-      (h.0, h.1,
-      each_both (IsAfter a.1) ls (news ++ bs) (each_front (IsAfter a.1) ls (p ∷ bs) h.2) (each_both (IsAfter a.1) news bs middle back.1),
-      replaced ls p news bs h.3 n (follows_less ls p.0 news f))
+      let middle : AllByRecursion (IsAfter a.1) news = each_weaker (λ (q : K × List (K × V)). (is_le (R p.0 q.0) ≡ true) × AreFrom q.0 q.1) (IsAfter a.1) (λ q g. (below_le R o p.0 q.0 a.1 g.0 back.0.0, g.1)) news f in (
+        h.0,
+        h.1,
+        each_both (IsAfter a.1) ls (news ++ bs) (each_front (IsAfter a.1) ls (p ∷ bs) h.2) (each_both (IsAfter a.1) news bs middle back.1),
+        replaced ls p news bs h.3 n (follows_less ls p.0 news f),
+      )
 
   -- a part that has others before it begins at its bound
   from_bound : (a : K × List (K × V)) (ls : List (K × List (K × V))) (p : K × List (K × V)) (bs : List (K × List (K × V))) → IsDivided (a ∷ (ls ++ p ∷ bs)) → AreFrom p.0 p.1
@@ -191,12 +191,17 @@ module _ {K V : Type 0} (R : K → K → Ordering) (o : IsTotalOrder R) where
     two_divided : IsDivided ((p.0, es) ∷ (m, fs) ∷ bs)
     two_divided =
         let back : IsDivided (p ∷ bs) = divided_back ls (p ∷ bs) h in
-        let after : (ds : List (K × V)) → AllByRecursion (λ (q : K × List (K × V)). AreBelow q.0 ds) bs → AllByRecursion (IsAfter ds) bs = λ ds x. each_joint (λ (q : K × List (K × V)). AreBelow q.0 ds) (IsAfter p.1) (IsAfter ds) (λ q y z. (y, z.1)) bs x back.2 in
-        (rise_front R o es fs both_rise, g,
-        ((b, f), after es (each_weaker (λ (q : K × List (K × V)). AreBelow q.0 (es ++ fs)) (λ (q : K × List (K × V)). AreBelow q.0 es) (λ q x. each_front (λ (d : K × V). R d.0 q.0 ≡ Less) es fs x) bs both_below)),
-        (rise_back R o es fs both_rise, i,
-        after fs (each_weaker (λ (q : K × List (K × V)). AreBelow q.0 (es ++ fs)) (λ (q : K × List (K × V)). AreBelow q.0 fs) (λ q x. each_back (λ (d : K × V). R d.0 q.0 ≡ Less) es fs x) bs both_below),
-        back.3))
+        let after : (ds : List (K × V)) → AllByRecursion (λ (q : K × List (K × V)). AreBelow q.0 ds) bs → AllByRecursion (IsAfter ds) bs = λ ds x. each_joint (λ (q : K × List (K × V)). AreBelow q.0 ds) (IsAfter p.1) (IsAfter ds) (λ q y z. (y, z.1)) bs x back.2 in (
+          rise_front R o es fs both_rise,
+          g,
+          ((b, f), after es (each_weaker (λ (q : K × List (K × V)). AreBelow q.0 (es ++ fs)) (λ (q : K × List (K × V)). AreBelow q.0 es) (λ q x. each_front (λ (d : K × V). R d.0 q.0 ≡ Less) es fs x) bs both_below)),
+          (
+            rise_back R o es fs both_rise,
+            i,
+            after fs (each_weaker (λ (q : K × List (K × V)). AreBelow q.0 (es ++ fs)) (λ (q : K × List (K × V)). AreBelow q.0 fs) (λ q x. each_back (λ (d : K × V). R d.0 q.0 ≡ Less) es fs x) bs both_below),
+            back.3,
+          ),
+        )
 
     follows_two : (xs : List (K × List (K × V))) → IsDivided (xs ++ p ∷ bs) → StartsAt k xs p.0 → Follows xs p.0 ((p.0, es) ∷ (m, fs) ∷ [])
     follows_two [] x y = tt

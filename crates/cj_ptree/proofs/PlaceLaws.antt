@@ -1,18 +1,16 @@
 -- Where a key belongs among pairs in rising key.
-use Rattle.std.proofs.Common.{◌≡◌, ◌∙◌, ℕ, zero, suc, ◌+◌, ◌-◌, ◌<◌, ◌≤◌, Bool, true, false, cond, List, [], ◌∷◌, ◌++◌, length, get_or, set, take, drop, refl, ap, sym, subst, arith, ⊎_elim, Ordering, Less, Equal, Greater, is_eq}
+use Rattle.std.proofs.Common.{◌≡◌, ◌∙◌, ℕ, zero, suc, ◌-◌, ◌<◌, Bool, true, false, cond, List, [], ◌∷◌, ◌++◌, length, get_or, set, take, drop, refl, ap, sym, subst, arith, ⊎_elim, Ordering, Less, Equal, is_eq}
 use Rattle.std.specs.BTreeMap.{insert_entry, is_at}
 use Rattle.std.specs.Cmp.{IsTotalOrder}
-use Rattle.std.specs.List.{AllByRecursion}
 use Rattle.std.specs.Map.{lookup, remove_entry}
 use Rattle.std.specs.Ordering.{match_ordering}
-use Rattle.std.specs.declared.option.Option.{Option}
 use Rattle.std.specs.declared.option.Option.TheVariants.{None, Some}
 use Rattle.std.proofs.lemmas.Bool.{cases_Bool, cond-true}
 use Rattle.std.specs.Ordering.{is_le}
 use Rattle.std.specs.Prelude.{filter}
 use Rattle.std.proofs.lemmas.List.{length-drop, set-get_or, set_split, take-append-drop, take_all}
 use Rattle.cj_ptree.specs.Pairs as pair
-use Rattle.cj_ptree.proofs.OrderLaws.{each_both, greater_back}
+use Rattle.cj_ptree.proofs.OrderLaws.{each_both}
 use Rattle.cj_ptree.proofs.ZoneLaws.{above_less, above_tied, below_less, below_tied, filter_from, from_above, insert_between, lookup_between, remove_between, rise_back, rise_below}
 
 -- a key that is not there is removed already

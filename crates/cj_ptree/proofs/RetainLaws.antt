@@ -3,8 +3,7 @@ use Rattle.std.proofs.Common.{◌≡◌, ◌∙◌, Bool, true, false, cond, Lis
 use Rattle.std.specs.List.{AllByRecursion}
 use Rattle.std.specs.Ordering.{is_le}
 use Rattle.std.specs.Prelude.{filter}
-use Rattle.std.proofs.lemmas.Bool.{cases_Bool, cond-false, cond-true}
-use Rattle.cj_ptree.specs.Pairs as pair
+use Rattle.std.proofs.lemmas.Bool.{cases_Bool}
 use Rattle.cj_ptree.specs.Pairs.{is_filled, retained}
 use Rattle.cj_ptree.specs.Parts as part
 use Rattle.cj_ptree.specs.Parts.{all_pairs}

@@ -6,10 +6,8 @@ use Rattle.std.specs.List.{AllByRecursion}
 use Rattle.std.specs.Map.{lookup, remove_entry}
 use Rattle.std.specs.Ordering.{is_le, match_ordering}
 use Rattle.std.specs.Prelude.{filter}
-use Rattle.std.specs.declared.option.Option.{Option}
 use Rattle.std.specs.declared.option.Option.TheVariants.{None, Some}
 use Rattle.std.proofs.lemmas.Bool.{cond-false, cond-true}
-use Rattle.std.proofs.lemmas.List.{append_assoc}
 use Rattle.cj_model.proofs.RisingLaws.{by_order}
 use Rattle.cj_ptree.specs.Pairs as pair
 use Rattle.cj_ptree.specs.Pairs.{is_filled, retained}

@@ -1,5 +1,4 @@
 -- Links to nodes.
-use Rattle.std.specs.Prelude.{⊤}
 use Rattle.std.specs.Arc.{arc_value}
 use Rattle.cj_ptree.specs.declared.link.Link.{Link}
 use Rattle.cj_ptree.specs.declared.link.Link.TheVariants.{Own, Shared}

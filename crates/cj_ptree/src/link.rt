@@ -88,7 +88,10 @@ fn is_alone<N>(link: &mut Link<N>) -> bool
 }
 
 /// Copies the node if other trees share it, so that it can be changed in place.
-pub(crate) fn ready<K: Ord, V, N: Node<K, V>>(link: &mut Link<N>, alloc: Global) -> Result<(), NoMemory>
+pub(crate) fn ready<K: Ord, V, N: Node<K, V>>(
+    link: &mut Link<N>,
+    alloc: Global,
+) -> Result<(), NoMemory>
     requires { N.IsBuilt (target link.old) }
     ensures pairs { N.pairs (target link.new) ≡ N.pairs (target link.old) }
     ensures built { N.IsBuilt (target link.new) }
@@ -199,10 +202,7 @@ pub(crate) fn share_below<K: Ord, V, N: Node<K, V>>(link: &mut Link<N>, alloc: G
 }
 
 /// Edits the values below a link, as a node does. Says whether there is a pair left.
-pub(crate) fn retain_below<K: Ord, V, N: Node<K, V>, E: Edit<V>>(
-    link: &mut Link<N>,
-    by: &E,
-) -> bool
+pub(crate) fn retain_below<K: Ord, V, N: Node<K, V>, E: Edit<V>>(link: &mut Link<N>, by: &E) -> bool
     requires built { N.IsBuilt (target link.old) }
     requires owned { OwnsNode N.IsOwned link.old }
     ensures filled { result ≡ pair.is_filled (N.pairs (target link.new)) }

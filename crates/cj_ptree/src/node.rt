@@ -44,12 +44,7 @@ pub(crate) trait Node<K: Ord, V>: Drop {
 
     /// Puts a pair, in place of the value at its key if there is one. May split off pairs from the end. `NoMemory`
     /// leaves the pairs as they were.
-    fn insert(
-        &mut self,
-        alloc: Global,
-        key: K,
-        value: V,
-    ) -> Result<Added<K, V, Self>, NoMemory>
+    fn insert(&mut self, alloc: Global, key: K, value: V) -> Result<Added<K, V, Self>, NoMemory>
         requires { IsBuilt self.old }
         ensures ok { IfOk result (λ added. Inserts pairs IsBuilt K.cmp (pairs self.old) key value added self.new) }
         ensures err { OnErr result (pairs self.new ≡ pairs self.old) }

@@ -1,4 +1,4 @@
-use Rattle.std.proofs.Common.{◌≡◌, ◌+◌, ◌-◌, ◌/◌, ◌<◌, length, get_or, take, sym, ap, ◌∙◌, subst, arith, add-one, Ordering, Less, Equal, Greater}
+use Rattle.std.proofs.Common.{◌≡◌, ◌+◌, ◌-◌, ◌/◌, ◌<◌, length, get_or, take, sym, ap, ◌∙◌, subst, arith, add-one, Less, Equal, Greater}
 use Rattle.std.proofs.lemmas.List.{get_or_default}
 use Rattle.cj_ptree.specs.Pairs.{AreBelow}
 use Rattle.cj_ptree.proofs.OrderLaws.{greater_back}

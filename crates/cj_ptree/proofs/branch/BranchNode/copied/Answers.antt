@@ -21,5 +21,5 @@ loop-child-preserved g c =
     record {
       parts = ap (λ (xs : List (Child g.row.K.Denot g.row.N.Denot)). map (part_of pairs) xs) c.in_ok-push.ensures.items ∙ parts_more pairs cs ds i child copy h is c.loop-child.invariant.parts c.in_ok-copied_child.ensures.part;
       built = subst (λ (xs : List (Child g.row.K.Denot g.row.N.Denot)). AllByRecursion (λ (x : Child g.row.K.Denot g.row.N.Denot). g.N.Node.IsBuilt (target x.node)) xs) (sym c.in_ok-push.ensures.items)
-      (each_both (λ (x : Child g.row.K.Denot g.row.N.Denot). g.N.Node.IsBuilt (target x.node)) ds (copy ∷ []) c.loop-child.invariant.built (c.in_ok-copied_child.ensures.built, tt));
+          (each_both (λ (x : Child g.row.K.Denot g.row.N.Denot). g.N.Node.IsBuilt (target x.node)) ds (copy ∷ []) c.loop-child.invariant.built (c.in_ok-copied_child.ensures.built, tt));
     }

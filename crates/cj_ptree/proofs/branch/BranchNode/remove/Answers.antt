@@ -1,4 +1,4 @@
-use Rattle.std.proofs.Common.{◌≡◌, ◌∙◌, ◌<◌, List, length, set, ap, subst, sym}
+use Rattle.std.proofs.Common.{◌∙◌, ◌<◌, List, length, set, ap, subst, sym}
 use Rattle.cj_ptree.specs.declared.child.Child.{Child}
 use Rattle.cj_ptree.specs.Branches.{IsBranch, branch_pairs}
 use Rattle.cj_ptree.specs.Links.{target}

@@ -1,4 +1,4 @@
-use Rattle.std.proofs.Common.{◌≡◌, ◌∙◌, ◌+◌, ◌<◌, ◌≤◌, suc, List, [], ◌∷◌, ◌++◌, length, map, take, drop, set, refl, ap, sym, subst, arith}
+use Rattle.std.proofs.Common.{◌∙◌, ◌<◌, ◌≤◌, suc, List, [], ◌∷◌, ◌++◌, length, map, take, drop, set, refl, ap, sym, subst, arith}
 use Rattle.std.specs.List.{AllByRecursion}
 use Rattle.cj_ptree.specs.declared.child.Child.{Child}
 use Rattle.cj_ptree.specs.Branches.{part_of}
@@ -64,9 +64,9 @@ loop-place-preserved-else-retain_below g c =
     record {
       within = omega arith;
       built = subst (λ (xs : List (Child g.row.K.Denot g.row.N.Denot)). AllByRecursion (λ (x : Child g.row.K.Denot g.row.N.Denot). g.N.Node.IsBuilt (target x.node)) xs) (sym cut)
-      (each_out (λ (x : Child g.row.K.Denot g.row.N.Denot). g.N.Node.IsBuilt (target x.node)) (set cs i changed) i (each_set (λ (x : Child g.row.K.Denot g.row.N.Denot). g.N.Node.IsBuilt (target x.node)) cs i changed c.retain_below.ensures.built inv.built));
+          (each_out (λ (x : Child g.row.K.Denot g.row.N.Denot). g.N.Node.IsBuilt (target x.node)) (set cs i changed) i (each_set (λ (x : Child g.row.K.Denot g.row.N.Denot). g.N.Node.IsBuilt (target x.node)) cs i changed c.retain_below.ensures.built inv.built));
       owned = subst (λ (xs : List (Child g.row.K.Denot g.row.N.Denot)). AllByRecursion (λ (x : Child g.row.K.Denot g.row.N.Denot). OwnsNode g.N.Node.IsOwned x.node) xs) (sym cut)
-      (each_out (λ (x : Child g.row.K.Denot g.row.N.Denot). OwnsNode g.N.Node.IsOwned x.node) (set cs i changed) i (each_set (λ (x : Child g.row.K.Denot g.row.N.Denot). OwnsNode g.N.Node.IsOwned x.node) cs i changed c.retain_below.ensures.owned inv.owned));
+          (each_out (λ (x : Child g.row.K.Denot g.row.N.Denot). OwnsNode g.N.Node.IsOwned x.node) (set cs i changed) i (each_set (λ (x : Child g.row.K.Denot g.row.N.Denot). OwnsNode g.N.Node.IsOwned x.node) cs i changed c.retain_below.ensures.owned inv.owned));
       done = inv.done ++ part_of pairs child ∷ [];
       rest = map (part_of pairs) (drop (suc i) cs);
       all = all_next pairs stays edited cs i h child is node q all inv.done inv.rest inv.all inv.kept inv.left;

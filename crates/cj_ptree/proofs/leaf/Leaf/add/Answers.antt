@@ -1,5 +1,4 @@
 use Rattle.std.proofs.Common.{◌≡◌, ◌∙◌, ◌++◌, List, ap, arith, subst, sym}
-use Rattle.std.specs.BTreeMap.{insert_entry}
 use Rattle.cj_ptree.specs.Pairs.{PairsRise}
 use Rattle.cj_ptree.proofs.LeafLaws.{append_gap, append_split}
 use Rattle.cj_ptree.proofs.PlaceLaws.{insert_gap, lookup_gap}
