@@ -81,7 +81,7 @@ fn a_snapshot_keeps_what_a_remove_takes(rt: HostRuntime) -> Result<(), Fail> {
         assert!(rt; *value / 10 == *key);
         keys.push(*key)?;
     }
-    assert!(rt; keys.as_slice() == [1, 2, 3]);
+    assert!(rt; keys.as_slice() == [1, 2, 3].as_slice());
     assert!(rt; tree.iter().count() == 2 && tree.remove(&2)? == None);
     Ok(())
 }
@@ -129,7 +129,7 @@ fn cursors_go_both_ways_from_a_key(rt: HostRuntime) -> Result<(), Fail> {
 #[test]
 fn a_dropped_snapshot_gives_its_memory_back(rt: HostRuntime) -> Result<(), Fail> {
     let arc = Arc::new(rt.alloc(), 7)?;
-    let mut tree = PTree::new(rt.alloc());
+    let mut tree: PTree<u64, Counted> = PTree::new(rt.alloc());
     tree.insert(1, Counted { arc: Arc::try_clone(&arc)? })?;
     let snapshot = tree.snapshot()?;
     assert!(rt; Arc::strong_count(&arc) == 2, "a snapshot copies no leaf");
