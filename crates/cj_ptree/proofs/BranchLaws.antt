@@ -9,7 +9,7 @@ use Rattle.std.specs.declared.option.Option.{Option}
 use Rattle.std.specs.declared.option.Option.TheVariants.{None, Some}
 use Rattle.std.specs.declared.result.Result.{Result}
 use Rattle.std.specs.declared.result.Result.TheVariants.{Err, Ok}
-use Rattle.std.specs.Ordering.{is_le}
+use Rattle.std.specs.Ordering.{is_le, is_lt}
 use Rattle.std.specs.Prelude.{filter}
 use Rattle.std.proofs.lemmas.List.{append-nil, append_assoc, drop-set-lt, get_or-set_same, map-append, set_split, take-append-drop, take-map, take-set, take_more_set}
 use Rattle.std.proofs.lemmas.List.Concat.{flat_map-append}
@@ -25,7 +25,7 @@ use Rattle.cj_ptree.specs.Parts as part
 use Rattle.cj_ptree.specs.Parts.{all_pairs}
 use Rattle.cj_ptree.proofs.OrderLaws.{each_both}
 use Rattle.cj_ptree.proofs.PlaceLaws.{drop_at_index, split_at, take_suc}
-use Rattle.cj_ptree.proofs.PartLaws.{all_inserted_one, all_inserted_two, all_removed_one, divided_back, divided_front, filter_part, from_all, from_behind, inserted_one, inserted_two, lookup_part, low_pairs, removed_all, removed_one}
+use Rattle.cj_ptree.proofs.PartLaws.{all_inserted_one, all_inserted_two, all_removed_one, before_part, divided_back, divided_front, filter_part, from_all, from_behind, inserted_one, inserted_two, lookup_part, low_pairs, removed_all, removed_one}
 
 -- what holds anyway holds on an error
 pub on_err : {T E P : Type 0} (r : Result T E) → P → OnErr r P
@@ -164,6 +164,11 @@ module _ {K V N : Type 0} (pairs : N → List (K × V)) where
           ap (λ (ps : List (K × List (K × V))). filter (λ (f : K × V). is_le (R k f.0)) (all_pairs ps)) around
           ∙ filter_part R o k before (part_of child) behind divided start end
           ∙ ap (λ n. filter (λ (f : K × V). is_le (R k f.0)) (pairs (target child.node)) ++ branch_pairs pairs (drop n cs)) (sym (add-one i))
+
+      pub before_child : filter (λ (f : K × V). is_lt (R f.0 k)) (branch_pairs pairs cs) ≡ branch_pairs pairs (take i cs) ++ filter (λ (f : K × V). is_lt (R f.0 k)) (pairs (target child.node))
+      before_child =
+          ap (λ (ps : List (K × List (K × V))). filter (λ (f : K × V). is_lt (R f.0 k)) (all_pairs ps)) around
+          ∙ before_part R o k before (part_of child) behind divided start end
 
       module _ (v : V) (node : Link N) where
         abbrev changed : Child K N

@@ -2,7 +2,7 @@
 use Rattle.std.proofs.Common.{◌≡◌, ◌∙◌, true, List, [], ◌∷◌, ◌++◌, sym, ap, subst, Ordering, Less, Equal, Greater, is_eq}
 use Rattle.std.specs.Cmp.{IsTotalOrder}
 use Rattle.std.specs.List.{AllByRecursion}
-use Rattle.std.specs.Ordering.{is_le, ordering_reverse}
+use Rattle.std.specs.Ordering.{is_le, is_lt, ordering_reverse}
 use Rattle.std.proofs.lemmas.Cmp.{alike_right}
 use Rattle.cj_model.proofs.RisingLaws.{by_order}
 
@@ -29,6 +29,12 @@ module _ {K : Type 0} (R : K → K → Ordering) (o : IsTotalOrder R) where
 
   pub not_le : (x y : K) → R x y ≡ Less → is_eq (R y x) ≡ Rattle.std.proofs.Common.false
   not_le x y h = ap is_eq (less_back x y h)
+
+  pub not_lt : (x y : K) → is_le (R x y) ≡ true → is_lt (R y x) ≡ Rattle.std.proofs.Common.false
+  not_lt x y h = by_order (R x y)
+      (λ e. ap is_lt (less_back x y e))
+      (λ e. ap is_lt (o.antisymm y x ∙ ap ordering_reverse e))
+      (λ e. cc (sym (ap is_le e) ∙ h))
 
 -- ---- each item
 

@@ -4,7 +4,7 @@ use Rattle.std.specs.BTreeMap.{insert_entry, is_at}
 use Rattle.std.specs.Cmp.{IsTotalOrder}
 use Rattle.std.specs.List.{AllByRecursion}
 use Rattle.std.specs.Map.{lookup, remove_entry}
-use Rattle.std.specs.Ordering.{is_le}
+use Rattle.std.specs.Ordering.{is_le, is_lt}
 use Rattle.std.specs.Prelude.{⊤, filter}
 use Rattle.std.proofs.lemmas.Cmp.{tied_itself}
 use Rattle.std.proofs.lemmas.List.{append-nil, append_assoc}
@@ -14,7 +14,7 @@ use Rattle.cj_ptree.specs.Pairs.{is_filled, retained}
 use Rattle.cj_ptree.specs.Parts as part
 use Rattle.cj_ptree.specs.Parts.{all_pairs}
 use Rattle.cj_ptree.proofs.OrderLaws.{each_back, each_both, each_front, each_joint, each_weaker}
-use Rattle.cj_ptree.proofs.ZoneLaws.{above_from, below_insert, below_le, bound_less, each_remove, filled_insert, filter_between, from_above, from_insert, insert_between, lookup_between, remove_between, rise_back, rise_both, rise_front, rise_insert, rise_remove}
+use Rattle.cj_ptree.proofs.ZoneLaws.{above_from, before_between, below_insert, below_le, bound_less, each_remove, filled_insert, filter_between, from_above, from_insert, insert_between, lookup_between, remove_between, rise_back, rise_both, rise_front, rise_insert, rise_remove}
 
 module _ {K V : Type 0} where
   -- the pairs of all parts round one of them
@@ -114,6 +114,9 @@ module _ {K V : Type 0} (R : K → K → Ordering) (o : IsTotalOrder R) where
 
     pub filter_part : filter (λ (e : K × V). is_le (R k e.0)) (all_pairs (ls ++ p ∷ bs)) ≡ filter (λ (e : K × V). is_le (R k e.0)) p.1 ++ all_pairs bs
     filter_part = ap (filter (λ (e : K × V). is_le (R k e.0))) (all_around ls p bs) ∙ filter_between R o k (all_pairs ls) p.1 (all_pairs bs) low high
+
+    pub before_part : filter (λ (e : K × V). is_lt (R e.0 k)) (all_pairs (ls ++ p ∷ bs)) ≡ all_pairs ls ++ filter (λ (e : K × V). is_lt (R e.0 k)) p.1
+    before_part = ap (filter (λ (e : K × V). is_lt (R e.0 k))) (all_around ls p bs) ∙ before_between R o k (all_pairs ls) p.1 (all_pairs bs) low high
 
   -- ---- parts in the place of one
 

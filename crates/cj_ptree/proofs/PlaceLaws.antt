@@ -3,15 +3,14 @@ use Rattle.std.proofs.Common.{◌≡◌, ◌∙◌, ℕ, zero, suc, ◌-◌, ◌
 use Rattle.std.specs.BTreeMap.{insert_entry, is_at}
 use Rattle.std.specs.Cmp.{IsTotalOrder}
 use Rattle.std.specs.Map.{lookup, remove_entry}
-use Rattle.std.specs.Ordering.{match_ordering}
 use Rattle.std.specs.declared.option.Option.TheVariants.{None, Some}
 use Rattle.std.proofs.lemmas.Bool.{cases_Bool, cond-true}
-use Rattle.std.specs.Ordering.{is_le}
+use Rattle.std.specs.Ordering.{is_le, is_lt, match_ordering}
 use Rattle.std.specs.Prelude.{filter}
 use Rattle.std.proofs.lemmas.List.{length-drop, set-get_or, set_split, take-append-drop, take_all}
 use Rattle.cj_ptree.specs.Pairs as pair
 use Rattle.cj_ptree.proofs.OrderLaws.{each_both}
-use Rattle.cj_ptree.proofs.ZoneLaws.{above_less, above_tied, below_less, below_tied, filter_from, from_above, insert_between, lookup_between, remove_between, rise_back, rise_below}
+use Rattle.cj_ptree.proofs.ZoneLaws.{above_less, above_tied, before_at, below_less, below_tied, filter_from, from_above, insert_between, lookup_between, remove_between, rise_back, rise_below}
 
 -- a key that is not there is removed already
 pub remove_absent : {K V : Type 0} (t : K → Bool) (es : List (K × V)) → lookup t es ≡ None → es ≡ remove_entry t es
@@ -130,3 +129,16 @@ module _ {K V : Type 0} (R : K → K → Ordering) (o : IsTotalOrder R) where
 
   pub filter_gap : (k : K) (es : List (K × V)) (i : ℕ) → pair.IsGap R k es i → take (length es - i) (drop i es) ≡ filter (λ (e : K × V). is_le (R k e.0)) es
   filter_gap k es i h = filter_drop k es i h.below (from_above R o k (drop i es) h.above)
+
+  -- ---- the pairs before a key
+
+  before_drop : (k : K) (es : List (K × V)) (i : ℕ) → pair.AreBelow R k (take i es) → pair.AreFrom R k (drop i es) → take i es ≡ filter (λ (e : K × V). is_lt (R e.0 k)) es
+  before_drop k es i b f =
+      sym (ap (filter (λ (e : K × V). is_lt (R e.0 k))) (sym (take-append-drop i es))
+      ∙ before_at R o k (take i es) (drop i es) b f)
+
+  pub before_hit : (k : K) (es : List (K × V)) (i : ℕ) → pair.IsHit R k es i → take i es ≡ filter (λ (e : K × V). is_lt (R e.0 k)) es
+  before_hit k es i h = before_drop k es i h.below (from_hit k es i h)
+
+  pub before_gap : (k : K) (es : List (K × V)) (i : ℕ) → pair.IsGap R k es i → take i es ≡ filter (λ (e : K × V). is_lt (R e.0 k)) es
+  before_gap k es i h = before_drop k es i h.below (from_above R o k (drop i es) h.above)

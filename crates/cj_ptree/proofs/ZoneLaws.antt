@@ -4,14 +4,16 @@ use Rattle.std.specs.BTreeMap.{insert_entry, is_at}
 use Rattle.std.specs.Cmp.{IsTotalOrder}
 use Rattle.std.specs.List.{AllByRecursion}
 use Rattle.std.specs.Map.{lookup, remove_entry}
-use Rattle.std.specs.Ordering.{is_le, match_ordering}
+use Rattle.std.specs.Ordering.{is_le, is_lt, match_ordering}
 use Rattle.std.specs.Prelude.{filter}
 use Rattle.std.specs.declared.option.Option.TheVariants.{None, Some}
 use Rattle.std.proofs.lemmas.Bool.{cond-false, cond-true}
+use Rattle.std.proofs.lemmas.List.{append-nil}
+use Rattle.std.proofs.lemmas.List.Elements.{filter-append}
 use Rattle.cj_model.proofs.RisingLaws.{by_order}
 use Rattle.cj_ptree.specs.Pairs as pair
 use Rattle.cj_ptree.specs.Pairs.{is_filled, retained}
-use Rattle.cj_ptree.proofs.OrderLaws.{each_back, each_both, each_front, each_weaker, greater_back, le_less, less_back, less_le, not_le}
+use Rattle.cj_ptree.proofs.OrderLaws.{each_back, each_both, each_front, each_weaker, greater_back, le_less, less_back, less_le, not_le, not_lt}
 
 module _ {K V : Type 0} (R : K → K → Ordering) (o : IsTotalOrder R) where
   abbrev AreAbove : K → List (K × V) → Type 0
@@ -156,6 +158,31 @@ module _ {K V : Type 0} (R : K → K → Ordering) (o : IsTotalOrder R) where
 
   pub filter_from : (k : K) (ls bs : List (K × V)) → AreBelow k ls → AreFrom k bs → filter (starts k) (ls ++ bs) ≡ bs
   filter_from k ls bs g h = filter_low k ls bs g ∙ filter_all k bs h
+
+  abbrev stops : K → K × V → Bool
+  stops k e = is_lt (R e.0 k)
+
+  before_all : (k : K) (bs : List (K × V)) → AreBelow k bs → filter (stops k) bs ≡ bs
+  before_all k [] h = refl
+  before_all k (b ∷ bs) h = cond-true _ _ _ (ap is_lt h.0) ∙ ap (λ (es : List (K × V)). b ∷ es) (before_all k bs h.1)
+
+  before_none : (k : K) (bs : List (K × V)) → AreFrom k bs → filter (stops k) bs ≡ []
+  before_none k [] h = refl
+  before_none k (b ∷ bs) h = cond-false _ _ _ (not_lt R o k b.0 h.0) ∙ before_none k bs h.1
+
+  pub before_at : (k : K) (ls bs : List (K × V)) → AreBelow k ls → AreFrom k bs → filter (stops k) (ls ++ bs) ≡ ls
+  before_at k ls bs g h =
+      filter-append (stops k) ls bs
+      ∙ ap (λ (es : List (K × V)). es ++ filter (stops k) bs) (before_all k ls g)
+      ∙ ap (λ (es : List (K × V)). ls ++ es) (before_none k bs h)
+      ∙ append-nil ls
+
+  pub before_between : (k : K) (ls bs cs : List (K × V)) → AreBelow k ls → AreAbove k cs → filter (stops k) (ls ++ (bs ++ cs)) ≡ ls ++ filter (stops k) bs
+  before_between k ls bs cs g h =
+      filter-append (stops k) ls (bs ++ cs)
+      ∙ ap (λ (es : List (K × V)). es ++ filter (stops k) (bs ++ cs)) (before_all k ls g)
+      ∙ ap (λ (es : List (K × V)). ls ++ es)
+      (filter-append (stops k) bs cs ∙ ap (λ (es : List (K × V)). filter (stops k) bs ++ es) (before_none k cs (from_above k cs h)) ∙ append-nil (filter (stops k) bs))
 
   -- ---- what changes keep
 

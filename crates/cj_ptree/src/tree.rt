@@ -4,7 +4,7 @@ ghost use Rattle.std.specs.Prelude.{◌≡◌, [], filter, fold, option_copied, 
 ghost use Rattle.std.specs.BTreeMap.{insert_entry, is_at};
 ghost use Rattle.std.specs.List.Sorted.{IsStrictlySortedBy};
 ghost use Rattle.std.specs.Map.{keys_of, lookup, remove_entry};
-ghost use Rattle.std.specs.Ordering.{is_le};
+ghost use Rattle.std.specs.Ordering.{is_le, is_lt};
 ghost use Rattle.cj_ptree.specs.Pairs.{retained, with_change};
 
 use crate::branch::{Branch, put_below};
@@ -114,6 +114,13 @@ impl<K: Ord + Duplicate + Drop, V: Duplicate + Drop> PTree<K, V> {
         ensures { result ≡ filter (λ e. is_le (K.cmp key.now e.0)) self.now }
     {
         PIter::from(self.root.node(), key)
+    }
+
+    /// The pairs whose key is below `key`, in rising key. Taken from its end, they fall from the key.
+    pub fn iter_before(&self, key: &K) -> PIter<'_, K, V>
+        ensures { result ≡ filter (λ e. is_lt (K.cmp e.0 key.now)) self.now }
+    {
+        PIter::before(self.root.node(), key)
     }
 
     /// Makes changes one after another, of which each puts a value at a key, or removes the key where it has none.

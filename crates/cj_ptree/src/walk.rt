@@ -3,7 +3,7 @@
 ghost use Rattle.std.specs.Prelude.{◌≡◌, ◌<◌, ◌++◌, [], true, false, filter, OnSome};
 ghost use Rattle.std.specs.Iterator.{YieldsFirstBy, YieldsLastBy, item_count};
 ghost use Rattle.std.specs.Map.Iter.{deref_pair};
-ghost use Rattle.std.specs.Ordering.{is_le};
+ghost use Rattle.std.specs.Ordering.{is_le, is_lt};
 ghost use Rattle.cj_ptree.specs.Branches.{branch_pairs};
 ghost use Rattle.cj_ptree.specs.Pairs.{PairsRise};
 ghost use Rattle.cj_ptree.specs.Trees.{IsRoot, IsTwig, leaf_pairs, root_pairs, twig_pairs};
@@ -167,6 +167,34 @@ fn leaves_from<'a, K: Ord, V>(
     (pairs_from(&leaf.pairs, key), &children[place + 1..])
 }
 
+/// The pairs whose key is below `key`.
+fn pairs_before<'a, K: Ord, V>(pairs: &'a [(K, V)], key: &K) -> &'a [(K, V)]
+    requires { PairsRise K.cmp pairs.now }
+    ensures { result.now ≡ filter (λ e. is_lt (K.cmp e.0 key.now)) pairs.now }
+{
+    match place_of(pairs, key) {
+        Ok(place) => &pairs[..place],
+        Err(place) => &pairs[..place],
+    }
+}
+
+/// The pairs of a twig whose key is below `key`: the leaves before one leaf, and some of its pairs.
+fn leaves_before<'a, K: Ord, V>(
+    twig: &'a Twig<K, V>,
+    key: &K,
+) -> (&'a [Child<K, Leaf<K, V>>], &'a [(K, V)])
+    requires { IsTwig K.cmp twig.now }
+    ensures { branch_pairs leaf_pairs result.0.now ++ result.1.now ≡ filter (λ e. is_lt (K.cmp e.0 key.now)) (twig_pairs twig.now) }
+{
+    let children = twig.children.as_slice();
+    if children.is_empty() {
+        return (children, &[]);
+    }
+    let place = child_of(children, key);
+    let leaf = children[place].node.node();
+    (&children[..place], pairs_before(&leaf.pairs, key))
+}
+
 impl<'a, K, V> PIter<'a, K, V> {
     /// The pairs of these twigs, behind those of a first leaf and of the leaves after it.
     fn of(
@@ -183,6 +211,25 @@ impl<'a, K, V> PIter<'a, K, V> {
                 twigs,
                 back_leaves: &[],
                 back: &[],
+            },
+        }
+    }
+
+    /// The pairs of these twigs, before those of further leaves and of a last leaf.
+    fn up_to(
+        twigs: &'a [Child<K, Twig<K, V>>],
+        back_leaves: &'a [Child<K, Leaf<K, V>>],
+        back: &'a [(K, V)],
+    ) -> PIter<'a, K, V>
+        ensures { result ≡ branch_pairs twig_pairs twigs.now ++ (branch_pairs leaf_pairs back_leaves.now ++ back.now) }
+    {
+        PIter {
+            rest: Rest {
+                front: &[],
+                leaves: &[],
+                twigs,
+                back_leaves,
+                back,
             },
         }
     }
@@ -208,6 +255,22 @@ impl<'a, K, V> PIter<'a, K, V> {
         let place = child_of(children, key);
         let (front, leaves) = leaves_from(children[place].node.node(), key);
         PIter::of(front, leaves, &children[place + 1..])
+    }
+
+    /// The pairs of a root whose key is below `key`.
+    pub(crate) fn before(root: &'a Root<K, V>, key: &K) -> PIter<'a, K, V>
+    where
+        K: Ord,
+        requires { IsRoot K.cmp root.now }
+        ensures { result ≡ filter (λ e. is_lt (K.cmp e.0 key.now)) (root_pairs root.now) }
+    {
+        let children = root.children.as_slice();
+        if children.is_empty() {
+            return PIter::all(root);
+        }
+        let place = child_of(children, key);
+        let (leaves, back) = leaves_before(children[place].node.node(), key);
+        PIter::up_to(&children[..place], leaves, back)
     }
 }
 

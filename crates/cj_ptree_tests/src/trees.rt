@@ -3,7 +3,7 @@
 ghost use Rattle.std.specs.Prelude.{nat_eq, not};
 
 use cj_model::{Duplicate, NoMemory};
-use cj_ptree::{Edit, PTree};
+use cj_ptree::{Edit, PIter, PTree};
 use std::alloc::Global;
 use std::marker::Model;
 use std::sync::Arc;
@@ -52,11 +52,20 @@ impl Edit<u64> for ZeroAllBut {
     }
 }
 
+/// The keys that a walk gives.
+fn keys_of(alloc: Global, walk: PIter<'_, u64, u64>) -> Result<Vec<u64>, NoMemory> {
+    let mut keys = Vec::new(alloc);
+    for (key, _) in walk {
+        keys.push(*key)?;
+    }
+    Ok(keys)
+}
+
 /// The tree with the keys 1, 2 and 3, each with ten times itself.
 fn tree_of_three(alloc: Global) -> Result<PTree<u64, u64>, NoMemory> {
     let mut tree = PTree::new(alloc);
-    for key in [3, 1, 2] {
-        tree.insert(key, 10 * key)?;
+    for (key, value) in [(3, 30), (1, 10), (2, 20)] {
+        tree.insert(key, value)?;
     }
     Ok(tree)
 }
@@ -76,13 +85,9 @@ fn a_snapshot_keeps_what_a_remove_takes(rt: HostRuntime) -> Result<(), Fail> {
     let snapshot = tree.snapshot()?;
     assert!(rt; tree.remove(&2)? == Some(20));
     assert!(rt; tree.get(&2) == None && snapshot.get(&2) == Some(&20));
-    let mut keys = Vec::new(rt.alloc());
-    for (key, value) in snapshot.iter() {
-        assert!(rt; *value / 10 == *key);
-        keys.push(*key)?;
-    }
-    assert!(rt; keys.as_slice() == [1, 2, 3].as_slice());
-    assert!(rt; tree.iter().count() == 2 && tree.remove(&2)? == None);
+    assert!(rt; keys_of(rt.alloc(), snapshot.iter())?.as_slice() == [1, 2, 3].as_slice());
+    assert!(rt; keys_of(rt.alloc(), tree.iter())?.as_slice() == [1, 3].as_slice());
+    assert!(rt; tree.remove(&2)? == None);
     Ok(())
 }
 
@@ -101,20 +106,26 @@ fn many_changes_are_made_at_once(rt: HostRuntime) -> Result<(), Fail> {
     let mut tree = tree_of_three(rt.alloc())?;
     let changes = vec![in rt.alloc(); (1, None), (4, Some(40)), (2, Some(21))]?;
     tree.change_all(changes)?;
-    assert!(rt; tree.get(&1) == None && tree.get(&2) == Some(&21));
-    assert!(rt; tree.get(&4) == Some(&40) && tree.iter().count() == 3);
+    assert!(rt; tree.get(&2) == Some(&21) && tree.get(&4) == Some(&40));
+    assert!(rt; keys_of(rt.alloc(), tree.iter())?.as_slice() == [2, 3, 4].as_slice());
+    Ok(())
+}
+
+#[test]
+fn a_walk_gives_all_keys(rt: HostRuntime) -> Result<(), Fail> {
+    let tree = large_tree(rt.alloc())?;
+    let mut next: u64 = 0;
+    for (key, _) in tree.iter() {
+        assert!(rt; *key == next);
+        next = next.wrapping_add(1);
+    }
+    assert!(rt; next == KEYS);
     Ok(())
 }
 
 #[test]
 fn cursors_go_both_ways_from_a_key(rt: HostRuntime) -> Result<(), Fail> {
     let tree = large_tree(rt.alloc())?;
-    let mut next = 0;
-    for (key, _) in tree.iter() {
-        assert!(rt; *key == next);
-        next = key.wrapping_add(1);
-    }
-    assert!(rt; next == KEYS);
     let mut walk = tree.iter_from(&1234);
     assert!(rt; walk.next() == Some((&1234, &1234)));
     let mut last = KEYS;
@@ -123,6 +134,9 @@ fn cursors_go_both_ways_from_a_key(rt: HostRuntime) -> Result<(), Fail> {
         assert!(rt; *key == last);
     }
     assert!(rt; last == 1235);
+    let mut down = tree.iter_before(&1234).rev();
+    assert!(rt; down.next() == Some((&1233, &1233)));
+    assert!(rt; down.next() == Some((&1232, &1232)));
     Ok(())
 }
 
