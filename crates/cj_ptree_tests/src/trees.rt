@@ -144,11 +144,24 @@ fn cursors_go_both_ways_from_a_key(rt: HostRuntime) -> Result<(), Fail> {
 fn a_dropped_snapshot_gives_its_memory_back(rt: HostRuntime) -> Result<(), Fail> {
     let arc = Arc::new(rt.alloc(), 7)?;
     let mut tree: PTree<u64, Counted> = PTree::new(rt.alloc());
-    tree.insert(1, Counted { arc: Arc::try_clone(&arc)? })?;
+    tree.insert(
+        1,
+        Counted {
+            arc: Arc::try_clone(&arc)?,
+        },
+    )?;
     let snapshot = tree.snapshot()?;
     assert!(rt; Arc::strong_count(&arc) == 2, "a snapshot copies no leaf");
-    tree.insert(2, Counted { arc: Arc::try_clone(&arc)? })?;
-    assert!(rt; Arc::strong_count(&arc) == 4, "the first change copies the leaf");
+    tree.insert(
+        2,
+        Counted {
+            arc: Arc::try_clone(&arc)?,
+        },
+    )?;
+    assert!(rt;
+        Arc::strong_count(&arc) == 4,
+        "the first change copies the leaf"
+    );
     drop(snapshot);
     assert!(rt; Arc::strong_count(&arc) == 3);
     drop(tree);
