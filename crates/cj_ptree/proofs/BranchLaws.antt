@@ -119,7 +119,7 @@ module _ {K V N : Type 0} (pairs : N → List (K × V)) where
     starts k [] (suc i) bound h = tt
     starts k (c ∷ cs) (suc i) bound h = h (omega arith)
 
-    pub ends : (k : K) (cs : List (Child K N)) (i : ℕ) → ((d : Child K N) → i < length cs → R k (get_or cs i d).bound ≡ Less) → part.EndsBefore R k (parts (drop i cs))
+    pub ends : (k : K) (cs : List (Child K N)) (i : ℕ) → ((d : Child K N) → i < length cs → R k (get_or cs i d).bound ≡ Less) → part.EndsBelow R k (parts (drop i cs))
     ends k [] zero h = tt
     ends k (c ∷ cs) zero h = h c (omega arith)
     ends k [] (suc i) h = tt
@@ -151,7 +151,7 @@ module _ {K V N : Type 0} (pairs : N → List (K × V)) where
       start : part.StartsAt R k before child.bound
       start = starts R k cs i child.bound (λ l. subst (λ (c : Child K N). is_le (R c.bound k) ≡ true) (sym (is ∙ ap (λ (xs : List (Child K N)). get_or xs i child) (sym r))) (s child l))
 
-      end : part.EndsBefore R k behind
+      end : part.EndsBelow R k behind
       end =
           let f : (x : Child K N) → i + 1 < length cs → R k (get_or cs (i + 1) x).bound ≡ Less = subst (λ (xs : List (Child K N)). (x : Child K N) → i + 1 < length xs → R k (get_or xs (i + 1) x).bound ≡ Less) r e in
           ends R k cs (suc i) (λ x l. subst (λ n. R k (get_or cs n x).bound ≡ Less) (add-one i) (f x (omega arith)))

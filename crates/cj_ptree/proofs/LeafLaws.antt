@@ -76,7 +76,7 @@ module _ {K V : Type 0} (R : K → K → Ordering) (o : IsTotalOrder R) where
         )))
 
   -- a pair behind all others
-  module _ (k : K) (v : V) (es : List (K × V)) (i : ℕ) (h : pair.IsGap R k es i) (z : i ≡ length es) where
+  module _ (k : K) (v : V) (es : List (K × V)) (i : ℕ) (h : pair.IsMissing R k es i) (z : i ≡ length es) where
     pub append_gap : es ++ (k, v) ∷ [] ≡ insert_entry R es k v
     append_gap =
         sym (ap (λ (fs : List (K × V)). fs ++ (k, v) ∷ []) (take_all i es (omega arith)))

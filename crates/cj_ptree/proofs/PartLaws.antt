@@ -43,8 +43,8 @@ module _ {K V : Type 0} (R : K → K → Ordering) (o : IsTotalOrder R) where
   abbrev StartsAt : K → List (K × List (K × V)) → K → Type 0
   StartsAt k ps bound = part.StartsAt R k ps bound
 
-  abbrev EndsBefore : K → List (K × List (K × V)) → Type 0
-  EndsBefore k ps = part.EndsBefore R k ps
+  abbrev EndsBelow : K → List (K × List (K × V)) → Type 0
+  EndsBelow k ps = part.EndsBelow R k ps
 
   -- ---- some of the parts
 
@@ -67,20 +67,20 @@ module _ {K V : Type 0} (R : K → K → Ordering) (o : IsTotalOrder R) where
   low_zone k [] p bs h s = tt
   low_zone k (a ∷ ls) p bs h s = below_le R o p.0 k (all_pairs (a ∷ ls)) s (low_pairs (a ∷ ls) p bs h)
 
-  ends_next : (k : K) (q : K × List (K × V)) (qs : List (K × List (K × V))) → is_filled q.1 ≡ true → AreFrom q.0 q.1 → AllByRecursion (IsAfter q.1) qs → R k q.0 ≡ Less → EndsBefore k qs
+  ends_next : (k : K) (q : K × List (K × V)) (qs : List (K × List (K × V))) → is_filled q.1 ≡ true → AreFrom q.0 q.1 → AllByRecursion (IsAfter q.1) qs → R k q.0 ≡ Less → EndsBelow k qs
   ends_next k q [] f a h l = tt
   ends_next k q (r ∷ rs) f a h l = o.trans k q.0 r.0 l (bound_less R o q.0 r.0 q.1 f a h.0.0)
 
   -- the key is below the bounds of all parts behind
-  pub ends_all : (k : K) (p : K × List (K × V)) (bs : List (K × List (K × V))) → IsDivided (p ∷ bs) → EndsBefore k bs → AllByRecursion (λ (q : K × List (K × V)). R k q.0 ≡ Less) bs
+  pub ends_all : (k : K) (p : K × List (K × V)) (bs : List (K × List (K × V))) → IsDivided (p ∷ bs) → EndsBelow k bs → AllByRecursion (λ (q : K × List (K × V)). R k q.0 ≡ Less) bs
   ends_all k p [] h l = tt
   ends_all k p (q ∷ qs) h l = (l, ends_all k q qs h.3 (ends_next k q qs h.3.1 h.2.0.1 h.3.2 l))
 
-  pub high_zone : (k : K) (p : K × List (K × V)) (bs : List (K × List (K × V))) → IsDivided (p ∷ bs) → EndsBefore k bs → AreAbove k (all_pairs bs)
+  pub high_zone : (k : K) (p : K × List (K × V)) (bs : List (K × List (K × V))) → IsDivided (p ∷ bs) → EndsBelow k bs → AreAbove k (all_pairs bs)
   high_zone k p [] h l = tt
   high_zone k p (q ∷ qs) h l = each_both (λ (e : K × V). R k e.0 ≡ Less) q.1 (all_pairs qs) (above_from R o k q.0 q.1 l h.2.0.1) (high_zone k q qs h.3 (ends_next k q qs h.3.1 h.2.0.1 h.3.2 l))
 
-  ends_first : (p : K × List (K × V)) (bs : List (K × List (K × V))) → IsDivided (p ∷ bs) → AreFrom p.0 p.1 → EndsBefore p.0 bs
+  ends_first : (p : K × List (K × V)) (bs : List (K × List (K × V))) → IsDivided (p ∷ bs) → AreFrom p.0 p.1 → EndsBelow p.0 bs
   ends_first p [] h f = tt
   ends_first p (q ∷ qs) h f = bound_less R o p.0 q.0 p.1 h.1 f h.2.0.0
 
@@ -96,7 +96,7 @@ module _ {K V : Type 0} (R : K → K → Ordering) (o : IsTotalOrder R) where
 
   -- ---- what concerns the pairs of one part alone
 
-  module _ (k : K) (ls : List (K × List (K × V))) (p : K × List (K × V)) (bs : List (K × List (K × V))) (h : IsDivided (ls ++ p ∷ bs)) (s : StartsAt k ls p.0) (l : EndsBefore k bs) where
+  module _ (k : K) (ls : List (K × List (K × V))) (p : K × List (K × V)) (bs : List (K × List (K × V))) (h : IsDivided (ls ++ p ∷ bs)) (s : StartsAt k ls p.0) (l : EndsBelow k bs) where
     low : AreBelow k (all_pairs ls)
     low = low_zone k ls p bs h s
 
@@ -160,7 +160,7 @@ module _ {K V : Type 0} (R : K → K → Ordering) (o : IsTotalOrder R) where
   rise_put : (k : K) (v : V) (ls : List (K × List (K × V))) (p : K × List (K × V)) (bs : List (K × List (K × V))) → IsDivided (ls ++ p ∷ bs) → PairsRise (insert_entry R p.1 k v)
   rise_put k v ls p bs h = rise_insert R o p.1 k v (divided_back ls (p ∷ bs) h).0
 
-  below_put : (k : K) (v : V) (ls : List (K × List (K × V))) (p : K × List (K × V)) (bs : List (K × List (K × V))) → IsDivided (ls ++ p ∷ bs) → EndsBefore k bs → AllByRecursion (λ (q : K × List (K × V)). AreBelow q.0 (insert_entry R p.1 k v)) bs
+  below_put : (k : K) (v : V) (ls : List (K × List (K × V))) (p : K × List (K × V)) (bs : List (K × List (K × V))) → IsDivided (ls ++ p ∷ bs) → EndsBelow k bs → AllByRecursion (λ (q : K × List (K × V)). AreBelow q.0 (insert_entry R p.1 k v)) bs
   below_put k v ls p bs h l =
       let back : IsDivided (p ∷ bs) = divided_back ls (p ∷ bs) h in
       each_joint (λ (q : K × List (K × V)). R k q.0 ≡ Less) (IsAfter p.1) (λ (q : K × List (K × V)). AreBelow q.0 (insert_entry R p.1 k v)) (λ q x y. below_insert R o q.0 p.1 k v y.0 x) bs (ends_all k p bs back l) back.2
@@ -172,18 +172,18 @@ module _ {K V : Type 0} (R : K → K → Ordering) (o : IsTotalOrder R) where
   follows_one k v [] p bs h s = tt
   follows_one k v (a ∷ ls) p bs h s = ((ap is_le (tied_itself o p.0), from_put k v a ls p bs h s), tt)
 
-  pub inserted_one : (k : K) (v : V) (ls : List (K × List (K × V))) (p : K × List (K × V)) (es : List (K × V)) (bs : List (K × List (K × V))) → IsDivided (ls ++ p ∷ bs) → StartsAt k ls p.0 → EndsBefore k bs → es ≡ insert_entry R p.1 k v → IsDivided (ls ++ (p.0, es) ∷ bs)
+  pub inserted_one : (k : K) (v : V) (ls : List (K × List (K × V))) (p : K × List (K × V)) (es : List (K × V)) (bs : List (K × List (K × V))) → IsDivided (ls ++ p ∷ bs) → StartsAt k ls p.0 → EndsBelow k bs → es ≡ insert_entry R p.1 k v → IsDivided (ls ++ (p.0, es) ∷ bs)
   inserted_one k v ls p es bs h s l e =
       subst (λ (fs : List (K × V)). IsDivided (ls ++ (p.0, fs) ∷ bs)) (sym e)
       (replaced_one ls p (insert_entry R p.1 k v) bs h (rise_put k v ls p bs h) (filled_insert R o p.1 k v) (below_put k v ls p bs h l) (follows_one k v ls p bs h s))
 
-  pub all_inserted_one : (k : K) (v : V) (ls : List (K × List (K × V))) (p : K × List (K × V)) (es : List (K × V)) (bs : List (K × List (K × V))) → IsDivided (ls ++ p ∷ bs) → StartsAt k ls p.0 → EndsBefore k bs → es ≡ insert_entry R p.1 k v → all_pairs (ls ++ (p.0, es) ∷ bs) ≡ insert_entry R (all_pairs (ls ++ p ∷ bs)) k v
+  pub all_inserted_one : (k : K) (v : V) (ls : List (K × List (K × V))) (p : K × List (K × V)) (es : List (K × V)) (bs : List (K × List (K × V))) → IsDivided (ls ++ p ∷ bs) → StartsAt k ls p.0 → EndsBelow k bs → es ≡ insert_entry R p.1 k v → all_pairs (ls ++ (p.0, es) ∷ bs) ≡ insert_entry R (all_pairs (ls ++ p ∷ bs)) k v
   all_inserted_one k v ls p es bs h s l e =
       all_around ls (p.0, es) bs
       ∙ ap (λ (fs : List (K × V)). all_pairs ls ++ (fs ++ all_pairs bs)) e
       ∙ sym (insert_part k ls p bs h s l v)
 
-  module _ (k : K) (v : V) (ls : List (K × List (K × V))) (p : K × List (K × V)) (es : List (K × V)) (m : K) (fs : List (K × V)) (bs : List (K × List (K × V))) (h : IsDivided (ls ++ p ∷ bs)) (s : StartsAt k ls p.0) (l : EndsBefore k bs)
+  module _ (k : K) (v : V) (ls : List (K × List (K × V))) (p : K × List (K × V)) (es : List (K × V)) (m : K) (fs : List (K × V)) (bs : List (K × List (K × V))) (h : IsDivided (ls ++ p ∷ bs)) (s : StartsAt k ls p.0) (l : EndsBelow k bs)
       (e : es ++ fs ≡ insert_entry R p.1 k v) (b : AreBelow m es) (f : AreFrom m fs) (g : is_filled es ≡ true) (i : is_filled fs ≡ true) where
     both_rise : PairsRise (es ++ fs)
     both_rise = subst (λ (ds : List (K × V)). PairsRise ds) (sym e) (rise_put k v ls p bs h)
@@ -242,7 +242,7 @@ module _ {K V : Type 0} (R : K → K → Ordering) (o : IsTotalOrder R) where
   pub removed_all : (ls : List (K × List (K × V))) (p : K × List (K × V)) (bs : List (K × List (K × V))) → IsDivided (ls ++ p ∷ bs) → IsDivided (ls ++ bs)
   removed_all ls p bs h = replaced ls p [] bs h (divided_back ls (p ∷ bs) h).3 (follows_less ls p.0 [] tt)
 
-  pub all_removed_one : (k : K) (ls : List (K × List (K × V))) (p : K × List (K × V)) (es : List (K × V)) (bs : List (K × List (K × V))) → IsDivided (ls ++ p ∷ bs) → StartsAt k ls p.0 → EndsBefore k bs → es ≡ remove_entry (is_at (R k)) p.1 → all_pairs (ls ++ (p.0, es) ∷ bs) ≡ remove_entry (is_at (R k)) (all_pairs (ls ++ p ∷ bs))
+  pub all_removed_one : (k : K) (ls : List (K × List (K × V))) (p : K × List (K × V)) (es : List (K × V)) (bs : List (K × List (K × V))) → IsDivided (ls ++ p ∷ bs) → StartsAt k ls p.0 → EndsBelow k bs → es ≡ remove_entry (is_at (R k)) p.1 → all_pairs (ls ++ (p.0, es) ∷ bs) ≡ remove_entry (is_at (R k)) (all_pairs (ls ++ p ∷ bs))
   all_removed_one k ls p es bs h s l e =
       all_around ls (p.0, es) bs
       ∙ ap (λ (ds : List (K × V)). all_pairs ls ++ (ds ++ all_pairs bs)) e

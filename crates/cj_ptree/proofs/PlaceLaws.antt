@@ -93,7 +93,7 @@ module _ {K V : Type 0} (R : K → K → Ordering) (o : IsTotalOrder R) where
 
   -- ---- where no pair has the key
 
-  module _ (k : K) (es : List (K × V)) (i : ℕ) (h : pair.IsGap R k es i) where
+  module _ (k : K) (es : List (K × V)) (i : ℕ) (h : pair.IsMissing R k es i) where
     pub lookup_gap : lookup (is_at (R k)) es ≡ None
     lookup_gap =
         ap (lookup (is_at (R k))) (sym (take-append-drop i es))
@@ -127,7 +127,7 @@ module _ {K V : Type 0} (R : K → K → Ordering) (o : IsTotalOrder R) where
   pub filter_hit : (k : K) (es : List (K × V)) (i : ℕ) → pair.IsHit R k es i → take (length es - i) (drop i es) ≡ filter (λ (e : K × V). is_le (R k e.0)) es
   filter_hit k es i h = filter_drop k es i h.below (from_hit k es i h)
 
-  pub filter_gap : (k : K) (es : List (K × V)) (i : ℕ) → pair.IsGap R k es i → take (length es - i) (drop i es) ≡ filter (λ (e : K × V). is_le (R k e.0)) es
+  pub filter_gap : (k : K) (es : List (K × V)) (i : ℕ) → pair.IsMissing R k es i → take (length es - i) (drop i es) ≡ filter (λ (e : K × V). is_le (R k e.0)) es
   filter_gap k es i h = filter_drop k es i h.below (from_above R o k (drop i es) h.above)
 
   -- ---- the pairs before a key
@@ -140,5 +140,5 @@ module _ {K V : Type 0} (R : K → K → Ordering) (o : IsTotalOrder R) where
   pub before_hit : (k : K) (es : List (K × V)) (i : ℕ) → pair.IsHit R k es i → take i es ≡ filter (λ (e : K × V). is_lt (R e.0 k)) es
   before_hit k es i h = before_drop k es i h.below (from_hit k es i h)
 
-  pub before_gap : (k : K) (es : List (K × V)) (i : ℕ) → pair.IsGap R k es i → take i es ≡ filter (λ (e : K × V). is_lt (R e.0 k)) es
+  pub before_gap : (k : K) (es : List (K × V)) (i : ℕ) → pair.IsMissing R k es i → take i es ≡ filter (λ (e : K × V). is_lt (R e.0 k)) es
   before_gap k es i h = before_drop k es i h.below (from_above R o k (drop i es) h.above)

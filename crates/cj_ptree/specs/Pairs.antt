@@ -40,7 +40,7 @@ module _ {K V : Type 0} (R : K → K → Ordering) where
     pub above : AreAbove k (drop (suc i) es)
 
   -- the key, which no pair has, belongs before the index
-  pub record IsGap (k : K) (es : List (K × V)) (i : ℕ) : Type 0 where
+  pub record IsMissing (k : K) (es : List (K × V)) (i : ℕ) : Type 0 where
     pub within : i ≤ length es
     pub below : AreBelow k (take i es)
     pub above : AreAbove k (drop i es)

@@ -28,6 +28,6 @@ module _ {K V : Type 0} (R : K → K → Ordering) where
   StartsAt k (p ∷ ps) bound = is_le (R bound k) ≡ true
 
   -- the key is below the bound of the first part, if there is one
-  abbrev pub EndsBefore : K → List (K × List (K × V)) → Type 0
-  EndsBefore k [] = ⊤
-  EndsBefore k (q ∷ qs) = R k q.0 ≡ Less
+  abbrev pub EndsBelow : K → List (K × List (K × V)) → Type 0
+  EndsBelow k [] = ⊤
+  EndsBelow k (q ∷ qs) = R k q.0 ≡ Less

@@ -2,7 +2,7 @@
 
 ghost use Rattle.std.specs.Prelude.{◌≡◌, ⊤, IfOk, OnErr, MatchResult};
 ghost use Rattle.cj_ptree.specs.Nodes.{Inserts, SplitsOff};
-ghost use Rattle.cj_ptree.specs.Pairs.{IsGap, IsHit, PairsRise};
+ghost use Rattle.cj_ptree.specs.Pairs.{IsHit, IsMissing, PairsRise};
 ghost use Rattle.cj_ptree.specs.Trees.{IsLeaf, leaf_pairs};
 
 use crate::added::Added;
@@ -25,7 +25,7 @@ pub(crate) struct Leaf<K, V> {
 /// The index of the pair with a key, or the one before which it belongs.
 pub(crate) fn place_of<K: Ord, V>(pairs: &[(K, V)], key: &K) -> Result<usize, usize>
     requires { PairsRise K.cmp pairs.now }
-    ensures { MatchResult result (IsHit K.cmp key.now pairs.now) (IsGap K.cmp key.now pairs.now) }
+    ensures { MatchResult result (IsHit K.cmp key.now pairs.now) (IsMissing K.cmp key.now pairs.now) }
 {
     let mut low = 0;
     let mut high = pairs.len();
@@ -84,7 +84,7 @@ impl<K: Ord + Duplicate + Drop, V: Duplicate + Drop> Leaf<K, V> {
         value: V,
     ) -> Result<Added<K, V, Leaf<K, V>>, NoMemory>
         requires rises { IsLeaf K.cmp self.old }
-        requires gap { IsGap K.cmp key (leaf_pairs self.old) place }
+        requires gap { IsMissing K.cmp key (leaf_pairs self.old) place }
         ensures ok { IfOk result (λ added. Inserts leaf_pairs (IsLeaf K.cmp) K.cmp (leaf_pairs self.old) key value added self.new) }
         ensures err { OnErr result (leaf_pairs self.new ≡ leaf_pairs self.old) }
         ensures built { IsLeaf K.cmp self.new }

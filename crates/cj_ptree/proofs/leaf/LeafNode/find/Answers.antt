@@ -1,5 +1,5 @@
 use Rattle.std.proofs.Common.{◌∙◌, List, ap, subst, sym, Some}
-use Rattle.cj_ptree.specs.Pairs.{IsGap, IsHit}
+use Rattle.cj_ptree.specs.Pairs.{IsHit, IsMissing}
 use Rattle.cj_ptree.proofs.PlaceLaws.{lookup_gap, lookup_hit}
 use Rattle.cj_ptree.proofs.leaf.LeafNode.find.Goals as goal
 
@@ -15,4 +15,4 @@ pub returns-in-Err : goal.returns-in-Err
 returns-in-Err g c =
     let R = g.K.Ord.cmp in
     let k = c.args.key.now in
-    sym (lookup_gap R g.met.K.Ord.total k _ c.in-Err.field-0 (subst (λ (fs : List (g.row.K.Denot × g.row.V.Denot)). IsGap R k fs c.in-Err.field-0) c.deref.ensures.value c.in-Err.ensures))
+    sym (lookup_gap R g.met.K.Ord.total k _ c.in-Err.field-0 (subst (λ (fs : List (g.row.K.Denot × g.row.V.Denot)). IsMissing R k fs c.in-Err.field-0) c.deref.ensures.value c.in-Err.ensures))

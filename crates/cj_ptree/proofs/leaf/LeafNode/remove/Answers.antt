@@ -1,6 +1,6 @@
 use Rattle.std.proofs.Common.{◌∙◌, List, ap, subst, sym, Some}
 use Rattle.std.specs.BTreeMap.{is_at}
-use Rattle.cj_ptree.specs.Pairs.{IsGap, IsHit, PairsRise}
+use Rattle.cj_ptree.specs.Pairs.{IsHit, IsMissing, PairsRise}
 use Rattle.cj_ptree.proofs.PlaceLaws.{lookup_gap, lookup_hit, remove_gap, remove_hit}
 use Rattle.cj_ptree.proofs.ZoneLaws.{rise_remove}
 use Rattle.cj_ptree.proofs.leaf.LeafNode.remove.Goals as goal
@@ -39,7 +39,7 @@ returns-in-Err-clause-value g c =
     let o = g.met.K.Ord.total in
     let es = c.args.self.now.pairs.items in
     let k = c.args.key.now in
-    let h = subst (λ (fs : List (g.row.K.Denot × g.row.V.Denot)). IsGap R k fs c.in-Err.field-0) c.deref.ensures.value c.in-Err.ensures in
+    let h = subst (λ (fs : List (g.row.K.Denot × g.row.V.Denot)). IsMissing R k fs c.in-Err.field-0) c.deref.ensures.value c.in-Err.ensures in
     sym (lookup_gap R o k es c.in-Err.field-0 h)
 
 pub returns-in-Err-clause-ok : goal.returns-in-Err-clause-ok
@@ -48,5 +48,5 @@ returns-in-Err-clause-ok g c =
     let o = g.met.K.Ord.total in
     let es = c.args.self.now.pairs.items in
     let k = c.args.key.now in
-    let h = subst (λ (fs : List (g.row.K.Denot × g.row.V.Denot)). IsGap R k fs c.in-Err.field-0) c.deref.ensures.value c.in-Err.ensures in
+    let h = subst (λ (fs : List (g.row.K.Denot × g.row.V.Denot)). IsMissing R k fs c.in-Err.field-0) c.deref.ensures.value c.in-Err.ensures in
     remove_gap R o k es c.in-Err.field-0 h
