@@ -79,13 +79,18 @@ fn large_tree(alloc: Global) -> Result<PTree<u64, u64>, NoMemory> {
     Ok(tree)
 }
 
+/// A value that threads can share.
+fn shared<T: Send + Sync>(value: &T) -> &T {
+    value
+}
+
 #[test]
 fn a_snapshot_keeps_what_a_remove_takes(rt: HostRuntime) -> Result<(), Fail> {
     let mut tree = tree_of_three(rt.alloc())?;
     let snapshot = tree.snapshot()?;
     assert!(rt; tree.remove(&2)? == Some(20));
     assert!(rt; tree.get(&2) == None && snapshot.get(&2) == Some(&20));
-    assert!(rt; keys_of(rt.alloc(), snapshot.iter())?.as_slice() == [1, 2, 3].as_slice());
+    assert!(rt; keys_of(rt.alloc(), shared(&snapshot).iter())?.as_slice() == [1, 2, 3].as_slice());
     assert!(rt; keys_of(rt.alloc(), tree.iter())?.as_slice() == [1, 3].as_slice());
     assert!(rt; tree.remove(&2)? == None);
     Ok(())

@@ -160,7 +160,7 @@ returns-clause-ok g c =
     let child = c.index_mut.result.now in
     let is = c.index_mut.ensures.value in
     let node = c.insert_below.new.link in
-    let z : c.in_ok-added.added.right ≡ Some (c.in-Some.bound, c.in-Some.node) = cc (c.in-Some.is, c.in-Some.bound-is, c.in-Some.node-is) in
+    let z : c.in_ok-added.added.right ≡ Some (c.in-Some.bound, c.in-Some.node) = c.in-Some.is in
     ap (λ (xs : List (Child g.row.K.Denot g.row.N.Denot)). branch_pairs pairs xs) c.in-Ok.ensures.items
     ∙ two_pairs pairs IsBuilt R o cs ds r i w b k s e child is c.args.value node c.in-Some.bound c.in-Some.node c.of-node.result c.of-node.ensures c.in_ok-added.added.right z c.in_ok-added.ensures.ok.put c.in_ok-added.ensures.ok.split
     ∙ ap (λ (xs : List (Child g.row.K.Denot g.row.N.Denot)). insert_entry R (branch_pairs pairs xs) k c.args.value) same
@@ -184,5 +184,5 @@ returns-clause-built g c =
     let child = c.index_mut.result.now in
     let is = c.index_mut.ensures.value in
     let node = c.insert_below.new.link in
-    let z : c.in_ok-added.added.right ≡ Some (c.in-Some.bound, c.in-Some.node) = cc (c.in-Some.is, c.in-Some.bound-is, c.in-Some.node-is) in
+    let z : c.in_ok-added.added.right ≡ Some (c.in-Some.bound, c.in-Some.node) = c.in-Some.is in
     subst (λ (xs : List (Child g.row.K.Denot g.row.N.Denot)). IsBranch pairs IsBuilt R xs) (sym c.in-Ok.ensures.items) (two_branch pairs IsBuilt R o cs ds r i w b k s e child is c.args.value node c.in-Some.bound c.in-Some.node c.of-node.result c.of-node.ensures c.in_ok-added.added.right z c.in_ok-added.ensures.ok.put c.in_ok-added.ensures.ok.split c.insert_below.ensures.built)
