@@ -1,6 +1,6 @@
 //! The tree.
 
-ghost use Rattle.std.specs.Prelude.{◌≡◌, [], filter, fold, option_copied, IfOk, OnOk, OnErr};
+ghost use Rattle.std.specs.Prelude.{◌≡◌, [], filter, fold, option_copied, IfOk, IsOk, None, OnOk, OnErr};
 ghost use Rattle.std.specs.BTreeMap.{insert_entry, is_at};
 ghost use Rattle.std.specs.List.Sorted.{IsStrictlySortedBy};
 ghost use Rattle.std.specs.Map.{keys_of, lookup, remove_entry};
@@ -79,12 +79,13 @@ impl<K: Ord + Duplicate + Drop, V: Duplicate + Drop> PTree<K, V> {
         put_below(&mut self.root, self.alloc, key, value)
     }
 
-    /// Removes a key, and gives its value. Nothing is allocated if the map does not have the key. `NoMemory` leaves the
-    /// map as it was.
+    /// Removes a key, and gives its value. That can't fail if the map does not have the key. `NoMemory` leaves the map
+    /// as it was.
     pub fn remove(&mut self, key: &K) -> Result<Option<V>, NoMemory>
         ensures value { IfOk result (λ old. old ≡ lookup (is_at (K.cmp key.now)) self.old) }
         ensures ok { OnOk result (self.new ≡ remove_entry (is_at (K.cmp key.now)) self.old) }
         ensures err { OnErr result (self.new ≡ self.old) }
+        ensures absent { lookup (is_at (K.cmp key.now)) self.old ≡ None → IsOk result }
     {
         let Some(_) = self.get(key) else {
             return Ok(None);
