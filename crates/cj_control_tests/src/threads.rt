@@ -147,8 +147,7 @@ fn a_read_is_answered_while_another_is_asked(rt: HostRuntime) -> Result<(), Fail
     Ok(())
 }
 
-/// Backend 0 carries the CREATE out in the session's thread, and backend 1 in its worker's. An INSERT of one row is left
-/// to the session's.
+/// Backend 0 carries the DELETE out in the session's thread, and backend 1 in its worker's.
 #[test]
 fn an_entry_is_carried_out_by_both_backends_at_once(rt: HostRuntime) -> Result<(), Fail> {
     let alloc = rt.alloc();
@@ -170,15 +169,19 @@ fn an_entry_is_carried_out_by_both_backends_at_once(rt: HostRuntime) -> Result<(
         },
     );
     let written = Talk {
-        sent: &[Query(CREATE), Query("INSERT INTO t VALUES (1)")],
-        replies: &[DONE_0, DONE_1],
+        sent: &[
+            Query(CREATE),
+            Query("DELETE FROM t"),
+            Query("INSERT INTO t VALUES (1)"),
+        ],
+        replies: &[DONE_0, DONE_0, DONE_1],
     };
     let read = Talk {
         sent: &[Query("SELECT k FROM t WHERE k = 1")],
         replies: &[K_1],
     };
-    let shown = b"b0 enabled position=2 asks=1 begun=0 faults=0 login=l0\n\
-b1 enabled position=2 asks=0 begun=0 faults=0 login=l1\n";
+    let shown = b"b0 enabled position=3 asks=1 begun=0 faults=0 login=l0\n\
+b1 enabled position=3 asks=0 begun=0 faults=0 login=l1\n";
     let steps = [
         Step::WithWorker(written),
         Step::Session(read),
