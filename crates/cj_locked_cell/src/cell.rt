@@ -61,39 +61,40 @@ impl<J: Naming, B: Backend> LockedCell<J, B> {
         }
     }
 
-    /// Has the backend carry out or skip entry `n`, under this login, and says which backend it is and what it did.
-    /// The pass has seen the entry, and has noted the rest then.
+    /// Has backend `b` carry out or skip entry `n`, under this login, if this is its cell, and says what it did. The pass
+    /// has seen the entry, and has noted the rest then.
     ///
-    /// A cell that stands elsewhere than before the entry reports that it ran out of memory.
+    /// A cell that stands elsewhere than before the entry reports that it ran out of memory. So does the cell of another
+    /// backend, in a branch that never runs.
     pub fn take(
         &mut self,
         board: &NamedBoard<J>,
         pass: &mut Pass<J>,
+        b: u8,
         n: u64,
         e: &Entry,
         login: &Text,
-    ) -> (u8, Did)
+    ) -> Did
         requires number { 0 < n }
         requires entry { slice_get (log (front pass.old.seat)) (n - 1) ≡ Some e.now }
         ensures more { HasNotedMore (pass_view pass.old.seat) (pass_view pass.new.seat) }
         ensures legal { IsLegal (front pass.new.seat) }
-        ensures backend { result.0 < BACKEND_LIMIT }
-        ensures reports { ReportsEntry B.tells (placement_of J.layout) n e.now (pass_view pass.new.seat) result.0 result.1 }
-        ensures fault { result.1 ≡ Did.Failed → NotesFault result.0 (pass_view pass.old.seat) (pass_view pass.new.seat) }
-        ensures number { result.0 ≡ self.old.cell.state.b }
-        ensures carried { self.old.cell.state.position ≡ Some (n - 1) → CarriesOutEntry self.old.cell.state n e.now login.now result.1 self.new.cell.state }
-        ensures elsewhere { self.old.cell.state.position ≢ Some (n - 1) → (result.1 ≡ Did.Starved) × (self.new.cell.state ≡ self.old.cell.state) }
+        ensures reports { ReportsEntry B.tells (placement_of J.layout) n e.now (pass_view pass.new.seat) b result }
+        ensures fault { result ≡ Did.Failed → NotesFault b (pass_view pass.old.seat) (pass_view pass.new.seat) }
+        ensures carried { self.old.cell.state.b ≡ b → self.old.cell.state.position ≡ Some (n - 1) → CarriesOutEntry self.old.cell.state n e.now login.now result self.new.cell.state }
+        ensures elsewhere { self.old.cell.state.position ≢ Some (n - 1) → (result ≡ Did.Starved) × (self.new.cell.state ≡ self.old.cell.state) }
+        ensures other { self.old.cell.state.b ≢ b → (result ≡ Did.Starved) × (self.new.cell.state ≡ self.old.cell.state) }
     {
-        let b = self.cell.number();
+        if self.cell.number() != b {
+            self.cell.report(&board.board, &mut pass.seat);
+            return Did::Starved;
+        }
         self.cell.brief(&board.board, &mut pass.seat);
         match self.cell.position() {
-            Some(position) if position == n - 1 => {
-                let did = self.take_next(board, pass, n, e, login);
-                (b, did)
-            }
+            Some(position) if position == n - 1 => self.take_next(board, pass, n, e, login),
             _ => {
                 self.cell.report(&board.board, &mut pass.seat);
-                (b, Did::Starved)
+                Did::Starved
             }
         }
     }
