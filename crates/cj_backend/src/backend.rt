@@ -61,9 +61,9 @@ pub trait Snap {
         ensures shows { shows self.new ≡ shows self.old };
 }
 
-/// The snapshot of a backend that gives none. It has no values.
+/// The snapshot of a backend that gives none. Nothing makes one, and `ask` would answer `NoMemory`.
 #[derive(Drop)]
-pub enum NoSnap {}
+pub struct NoSnap(());
 
 impl Snap for NoSnap {
     ghost use Rattle.cj_backend.specs.Backends.{nothing_shown};
@@ -71,7 +71,7 @@ impl Snap for NoSnap {
     ghost shows = { λ _. nothing_shown };
 
     fn ask(&mut self, _tx: u64, _select: &Select) -> Result<Asked, NoMemory> {
-        match *self {}
+        Err(NoMemory)
     }
 }
 
