@@ -1,5 +1,5 @@
 -- What calls of a backend give and leave. Contents that are visible to contracts are `Some` database, else `None`.
-use Rattle.std.specs.Prelude.{◌≡◌, ◌⊎◌, ℕ, ◌≤◌, Bool, true, false, if◌then◌else◌, not, ◌==◌, List, [], ◌∷◌, ◌++◌, filter, Contains, IfSome, IfOk, IsErrOf}
+use Rattle.std.specs.Prelude.{◌≡◌, ◌⊎◌, ℕ, Bool, true, false, if◌then◌else◌, not, ◌==◌, List, [], ◌∷◌, ◌++◌, filter, Contains, IfSome, IfOk, IsErrOf}
 use Rattle.std.specs.declared.option.Option.{Option}
 use Rattle.std.specs.declared.option.Option.TheVariants.{None, Some}
 use Rattle.std.specs.Option.{option_map}
@@ -53,6 +53,12 @@ abbrev pub asks_after : {T E : Type 0} → ℕ → Result T E → ℕ
 asks_after asks (Ok answer) = next asks
 asks_after asks (Err e) = asks
 
+-- the count of answered queries after a call for a snapshot: one more where there is a snapshot
+abbrev pub asks_after_snapshot : {S E : Type 0} → ℕ → Result (Option S) E → ℕ
+asks_after_snapshot asks (Ok (Some snap)) = next asks
+asks_after_snapshot asks (Ok None) = asks
+asks_after_snapshot asks (Err e) = asks
+
 -- ---- contents
 
 -- the outcome is that of the act on the database that was told, where one was
@@ -65,8 +71,12 @@ told_after told tx act (Ok x) = option_map (λ db. (acted db tx act).db) told
 told_after told tx act (Err e) = None
 
 -- the answer is that of the query on the database that is told, where one is
-abbrev pub SaysAnswer : Option (List Slot) → ℕ → Select → Result Asked BackendError → Type 0
+abbrev pub SaysAnswer : {E : Type 0} → Option (List Slot) → ℕ → Select → Result Asked E → Type 0
 SaysAnswer told tx select result = IfOk result (λ answer. IfSome told (λ db. answer ≡ ask db tx select))
+
+-- what a snapshot shows of which contracts see nothing
+abbrev pub nothing_shown : Option (List Slot)
+nothing_shown = None
 
 -- what is told after a load: the loaded database, of a backend that tells its contents, and nothing after an error
 abbrev pub told_loaded : {T : Type 0} → Bool → List Slot → Result T BackendError → Option (List Slot)
@@ -85,6 +95,14 @@ abbrev pub LogsInToAsk : {T : Type 0} → Option (List ℕ) → List ℕ → Res
 LogsInToAsk before given (Ok x) now = now ≡ Some given
 LogsInToAsk before given (Err errors.Failed) now = (now ≡ Some given) ⊎ (now ≡ before)
 LogsInToAsk before given (Err errors.NoMemory) now = now ≡ before
+
+-- the last login after a call for a snapshot is that after a query where there is a snapshot or an error, and else
+-- the one before
+abbrev pub LogsInToSnapshot : {S : Type 0} → Option (List ℕ) → List ℕ → Result (Option S) BackendError → Option (List ℕ) → Type 0
+LogsInToSnapshot before given (Ok (Some snap)) now = now ≡ Some given
+LogsInToSnapshot before given (Ok None) now = now ≡ before
+LogsInToSnapshot before given (Err errors.Failed) now = (now ≡ Some given) ⊎ (now ≡ before)
+LogsInToSnapshot before given (Err errors.NoMemory) now = now ≡ before
 
 -- the number is 0 for no transaction, or one of the transactions begun
 abbrev pub IsBegun : List ℕ → ℕ → Type 0

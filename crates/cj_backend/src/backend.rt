@@ -7,6 +7,8 @@ ghost use Rattle.cj_model.specs.declared.request.Act.TheVariants as act;
 ghost use Rattle.cj_model.specs.declared.request.Request.TheVariants as request;
 ghost use Rattle.cj_model.specs.Sql.WrittenRequests.{IsWritten};
 ghost use Rattle.cj_model.specs.Database.Storable.{IsStorable};
+ghost use Rattle.cj_model.specs.Database.Outcomes.{IsAsked};
+ghost use Rattle.cj_backend.specs.Backends.{SaysAnswer};
 
 use cj_model::{Asked, Create, Db, Name, NoMemory, Outcome, Select, Text, Write};
 use thiserror::Error;
@@ -43,6 +45,36 @@ pub struct Counts {
     pub begun: u64,
 }
 
+/// What a backend held at one moment, which answers queries while the backend goes on.
+///
+/// Answers count no query and no fault of the backend, and leave its last login.
+pub trait Snap {
+    /// The database that the snapshot shows, or `None` where contracts do not see it.
+    ghost shows: { Self → Option (List Slot) };
+
+    /// Answers a query of transaction `tx`, 0 for none, or refuses it. The snapshot shows the same as before, after
+    /// an error too.
+    fn ask(&mut self, tx: u64, select: &Select) -> Result<Asked, NoMemory>
+        requires { IsWritten (request.Select select.now) }
+        ensures answer { SaysAnswer (shows self.old) tx select.now result }
+        ensures possible { IfOk result IsAsked }
+        ensures shows { shows self.new ≡ shows self.old };
+}
+
+/// The snapshot of a backend that gives none. Nothing makes one, and `ask` would answer `NoMemory`.
+#[derive(Drop)]
+pub struct NoSnap(());
+
+impl Snap for NoSnap {
+    ghost use Rattle.cj_backend.specs.Backends.{nothing_shown};
+
+    ghost shows = { λ _. nothing_shown };
+
+    fn ask(&mut self, _tx: u64, _select: &Select) -> Result<Asked, NoMemory> {
+        Err(NoMemory)
+    }
+}
+
 /// A database that carries out changes and answers queries, one call after another. It keeps its own
 /// allocator.
 ///
@@ -51,8 +83,12 @@ pub struct Counts {
 /// does a call that is carried out. After a change that failed, a load among them, contracts no longer see
 /// what the backend holds. They see it again after the next load that is carried out.
 pub trait Backend {
+    ghost use Rattle.std.specs.Option.{is_some};
     ghost use Rattle.cj_model.specs.Database.Outcomes.{IsOutcome, IsAsked};
-    ghost use Rattle.cj_backend.specs.Backends.{HasBackendCause, SaysOutcome, SaysAnswer, told_after, LogsIn, LogsInToAsk, IsBegun, begun_with, begun_without, told_loaded, begun_loaded, asks_after, Arming, SpendsArming, arming_after};
+    ghost use Rattle.cj_backend.specs.Backends.{HasBackendCause, SaysOutcome, SaysAnswer, told_after, LogsIn, LogsInToAsk, LogsInToSnapshot, IsBegun, begun_with, begun_without, told_loaded, begun_loaded, asks_after, asks_after_snapshot, Arming, SpendsArming, arming_after};
+
+    /// The snapshots that the backend gives.
+    type Snap: Snap + Drop;
 
     /// Whether contracts see what the backend holds: always, except from a failed change to the next load
     /// that is carried out.
@@ -78,6 +114,9 @@ pub trait Backend {
 
     /// Whether the backend is armed, and how often it was.
     ghost arming: { Self → Arming };
+
+    /// Whether the backend gives snapshots.
+    ghost snaps: { Self → Bool };
 
     /// Begins transaction `tx`, which must not be begun yet. After an error it is not begun, and contracts
     /// no longer see what the backend holds.
@@ -162,6 +201,19 @@ pub trait Backend {
         ensures login { LogsInToAsk (login self.old) user.now result (login self.new) }
         ensures begun { begun self.new ≡ begun self.old }
         ensures asks { asks self.new ≡ asks_after (asks self.old) result }
+        ensures arming { SpendsArming (arming self.old) (arming self.new) result };
+
+    /// A snapshot of what the backend holds, drafts included, which answers queries while the backend goes on. It is
+    /// `None` from a backend that gives none, which leaves the last login. A snapshot counts as one query. Contracts
+    /// see the same contents as before, after an error too. `NoMemory` also leaves the last login.
+    fn snapshot(&mut self, user: &Text) -> Result<Option<Self::Snap>, BackendError>
+        ensures given { IfOk result (λ snap. is_some snap ≡ snaps self.old) }
+        ensures shows { IfOk result (λ snap. IfSome snap (λ s. IfSome (told self.old) (λ db. Self.Snap.shows s ≡ Some db))) }
+        ensures told { told self.new ≡ told self.old }
+        ensures cause { HasBackendCause (faults self.old) (faults self.new) result }
+        ensures login { LogsInToSnapshot (login self.old) user.now result (login self.new) }
+        ensures begun { begun self.new ≡ begun self.old }
+        ensures asks { asks self.new ≡ asks_after_snapshot (asks self.old) result }
         ensures arming { SpendsArming (arming self.old) (arming self.new) result };
 
     /// A copy of what the backend holds, drafts included. Contracts see the same contents as before, after

@@ -10,4 +10,4 @@
 
 mod backend;
 
-pub use backend::{Backend, BackendError, Counts};
+pub use backend::{Backend, BackendError, Counts, NoSnap, Snap};

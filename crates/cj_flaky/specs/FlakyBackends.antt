@@ -1,7 +1,7 @@
 -- What contracts see of a flaky backend, and what its calls do to it.
-use Rattle.std.specs.Prelude.{◌≡◌, ◌⊎◌, ℕ, ◌+◌, ◌-◌, ◌^◌, ◌<◌, ◌≤◌, min, Bool, true, false, List, [], IfOk, IfSome, Contains}
+use Rattle.std.specs.Prelude.{◌≡◌, ◌⊎◌, ℕ, ◌+◌, ◌-◌, ◌^◌, ◌<◌, ◌≤◌, min, Bool, true, false, List, [], IfOk, IfSome, Contains, is_some}
 use Rattle.std.specs.declared.option.Option.{Option}
-use Rattle.std.specs.declared.option.Option.TheVariants.{None}
+use Rattle.std.specs.declared.option.Option.TheVariants.{None, Some}
 use Rattle.std.specs.declared.result.Result.{Result}
 use Rattle.std.specs.declared.result.Result.TheVariants.{Ok, Err}
 use Rattle.cj_outside.specs.Causes.{next}
@@ -16,7 +16,7 @@ use Rattle.cj_model.specs.Database.Storable.{IsStorable}
 use Rattle.cj_backend.specs.declared.backend.BackendError.{BackendError}
 use Rattle.cj_backend.specs.declared.backend.BackendError.TheVariants.{Failed}
 use Rattle.cj_backend.specs.declared.backend.Backend.{Ghosts}
-use Rattle.cj_backend.specs.Backends.{HasBackendCause, SaysOutcome, SaysAnswer, told_after, told_loaded, LogsIn, LogsInToAsk, begun_with, begun_without, begun_loaded, asks_after, Arming, SpendsArming}
+use Rattle.cj_backend.specs.Backends.{HasBackendCause, SaysOutcome, SaysAnswer, told_after, told_loaded, LogsIn, LogsInToAsk, LogsInToSnapshot, begun_with, begun_without, begun_loaded, asks_after, asks_after_snapshot, Arming, SpendsArming}
 
 -- the state of a flaky backend as contracts see it
 pub record FlakyState (B : Type 0) : Type 0 where
@@ -94,7 +94,7 @@ module _ {B T : Type 0} (old : FlakyState B) (result : Result T BackendError) (n
 
 -- ---- what calls make of the inner backend
 
-module _ {B : Type 0} (g : Ghosts B) (old : B) where
+module _ {B S : Type 0} (g : Ghosts B S) (old : B) where
   -- what every change makes of the inner backend
   pub record PassesChange {T : Type 0} (user : List ℕ) (tx : ℕ) (act : Act) (result : Result T BackendError) (new : B) : Type 0 where
     pub told : g.told new ≡ told_after (g.told old) tx act result
@@ -129,6 +129,17 @@ module _ {B : Type 0} (g : Ghosts B) (old : B) where
     pub login : LogsInToAsk (g.login old) user result (g.login new)
     pub begun : g.begun new ≡ g.begun old
     pub asks : g.asks new ≡ asks_after (g.asks old) result
+    pub arming : SpendsArming (g.arming old) (g.arming new) result
+
+  -- what a call for a snapshot makes of the inner backend, and what the snapshot shows
+  pub record PassesSnapshot (shows : S → Option (List Slot)) (user : List ℕ) (result : Result (Option S) BackendError) (new : B) : Type 0 where
+    pub given : IfOk result (λ snap. is_some snap ≡ g.snaps old)
+    pub shown : IfOk result (λ snap. IfSome snap (λ s. IfSome (g.told old) (λ db. shows s ≡ Some db)))
+    pub told : g.told new ≡ g.told old
+    pub cause : HasBackendCause (g.faults old) (g.faults new) result
+    pub login : LogsInToSnapshot (g.login old) user result (g.login new)
+    pub begun : g.begun new ≡ g.begun old
+    pub asks : g.asks new ≡ asks_after_snapshot (g.asks old) result
     pub arming : SpendsArming (g.arming old) (g.arming new) result
 
   -- what `contents` makes of the inner backend

@@ -50,6 +50,8 @@ impl<B: Backend> Armable<B> {
 impl<B: Backend> Backend for Armable<B> {
     ghost use Rattle.cj_flaky.specs.FlakyBackends.{arming_of, faults_by, told_by};
 
+    type Snap = B::Snap;
+
     ghost tells = { B.tells };
 
     ghost told = { λ a. told_by B.told a };
@@ -65,6 +67,8 @@ impl<B: Backend> Backend for Armable<B> {
     ghost can_be_armed = { true };
 
     ghost arming = { λ a. arming_of a };
+
+    ghost snaps = { λ a. B.snaps a.inner };
 
     fn begin(&mut self, user: &Text, tx: u64) -> Result<(), BackendError> {
         self.inner.begin(user, tx)
@@ -92,6 +96,10 @@ impl<B: Backend> Backend for Armable<B> {
 
     fn ask(&mut self, user: &Text, tx: u64, select: &Select) -> Result<Asked, BackendError> {
         self.inner.ask(user, tx, select)
+    }
+
+    fn snapshot(&mut self, user: &Text) -> Result<Option<B::Snap>, BackendError> {
+        self.inner.snapshot(user)
     }
 
     fn contents(&mut self) -> Result<Db, BackendError> {

@@ -8,8 +8,8 @@ use std::marker::Model;
 
 /// A backend that passes calls on to another one, except for those that are to fail.
 ///
-/// Calls of `begin`, `write`, `create`, `drop_table`, `commit`, `abort`, `ask`, `contents` and `load` are
-/// numbered from 1 up to 2^64 - 1, where the number stays. A call is to fail if and only if its number is
+/// Calls of `begin`, `write`, `create`, `drop_table`, `commit`, `abort`, `ask`, `snapshot`, `contents` and
+/// `load` are numbered from 1 up to 2^64 - 1, where the number stays. A query of a snapshot is no such call. A call is to fail if and only if its number is
 /// listed or it is the next numbered call after `arm`. It then answers `Failed`, passes nothing on and
 /// counts one fault. If it is a change, a load among them, contracts do not see the contents until a load
 /// is carried out. Any other call gives what the inner backend gives, `Failed` included. Faults are counted
@@ -118,15 +118,17 @@ impl<B: Backend> Flaky<B> {
 }
 
 impl<B: Backend> Backend for Flaky<B> {
-    ghost use Rattle.std.specs.Prelude.{Contains, IfOk, IfSome};
+    ghost use Rattle.std.specs.Prelude.{Contains, IfOk, IfSome, Some, is_some};
     ghost use Rattle.cj_outside.specs.Causes.{next};
     ghost use Rattle.cj_model.specs.declared.request.Act.TheVariants as act;
     ghost use Rattle.cj_model.specs.declared.request.Request.TheVariants as request;
     ghost use Rattle.cj_model.specs.Sql.WrittenRequests.{IsWritten};
     ghost use Rattle.cj_model.specs.Database.Outcomes.{IsOutcome, IsAsked};
     ghost use Rattle.cj_model.specs.Database.Storable.{IsStorable};
-    ghost use Rattle.cj_backend.specs.Backends.{HasBackendCause, SaysOutcome, SaysAnswer, told_after, LogsIn, LogsInToAsk, IsBegun, begun_with, begun_without, told_loaded, begun_loaded, asks_after, SpendsArming};
-    ghost use Rattle.cj_flaky.specs.FlakyBackends.{CallsAsListed, ChangesAsListed, LoadsAsListed, PassesAsk, PassesBegin, PassesContents, PassesEnd, PassesLoad, PassesWrite, arming_of, faults_by, told_by};
+    ghost use Rattle.cj_backend.specs.Backends.{HasBackendCause, SaysOutcome, SaysAnswer, told_after, LogsIn, LogsInToAsk, LogsInToSnapshot, IsBegun, begun_with, begun_without, told_loaded, begun_loaded, asks_after, asks_after_snapshot, SpendsArming};
+    ghost use Rattle.cj_flaky.specs.FlakyBackends.{CallsAsListed, ChangesAsListed, LoadsAsListed, PassesAsk, PassesBegin, PassesContents, PassesEnd, PassesLoad, PassesSnapshot, PassesWrite, arming_of, faults_by, told_by};
+
+    type Snap = B::Snap;
 
     ghost tells = { B.tells };
 
@@ -143,6 +145,8 @@ impl<B: Backend> Backend for Flaky<B> {
     ghost can_be_armed = { true };
 
     ghost arming = { λ f. arming_of f };
+
+    ghost snaps = { λ f. B.snaps f.inner };
 
     fn begin(&mut self, user: &Text, tx: u64) -> Result<(), BackendError>
         requires { ¬ Contains (B.begun self.old.inner) tx }
@@ -248,6 +252,21 @@ impl<B: Backend> Backend for Flaky<B> {
     {
         self.enter()?;
         self.inner.ask(user, tx, select)
+    }
+
+    fn snapshot(&mut self, user: &Text) -> Result<Option<B::Snap>, BackendError>
+        ensures given { IfOk result (λ snap. is_some snap ≡ B.snaps self.old.inner) }
+        ensures shows { IfOk result (λ snap. IfSome snap (λ s. IfSome (told_by B.told self.old) (λ db. B.Snap.shows s ≡ Some db))) }
+        ensures told { told_by B.told self.new ≡ told_by B.told self.old }
+        ensures cause { HasBackendCause (faults_by B.faults self.old) (faults_by B.faults self.new) result }
+        ensures login { LogsInToSnapshot (B.login self.old.inner) user.now result (B.login self.new.inner) }
+        ensures begun { B.begun self.new.inner ≡ B.begun self.old.inner }
+        ensures asks { B.asks self.new.inner ≡ asks_after_snapshot (B.asks self.old.inner) result }
+        ensures arming { SpendsArming (arming_of self.old) (arming_of self.new) result }
+        ensures listed { CallsAsListed self.old result self.new (PassesSnapshot B.Backend self.old.inner B.Snap.shows user.now result self.new.inner) }
+    {
+        self.enter()?;
+        self.inner.snapshot(user)
     }
 
     fn contents(&mut self) -> Result<Db, BackendError>

@@ -2,20 +2,41 @@
 
 ghost use Rattle.std.specs.Prelude.{◌≡◌};
 
-use cj_backend::{Backend, BackendError, Counts};
-use cj_model::{Asked, Create, Db, Name, Outcome, Select, Text, Write};
+use cj_backend::{Backend, BackendError, Counts, Snap};
+use cj_model::{Asked, Create, Db, Name, NoMemory, Outcome, Select, Text, Write};
 
 /// A gate at which calls wait before they go on.
 pub trait Gate {
-    /// Called before each query.
+    /// Called before each query, of the backend or of a snapshot.
     fn pass(&mut self);
 
     /// Called before each write; does nothing by default.
     fn pass_write(&mut self) {}
+
+    /// Another gate over the same flags, which takes no memory. `None` where they cannot be shared once more.
+    fn again(&self) -> Option<Self>;
+}
+
+/// A snapshot that passes a gate before each query. It has none where the backend's gate gave no other.
+#[derive(Drop)]
+pub struct GatedSnap<S: Snap, G: Gate> {
+    inner: S,
+    gate: Option<G>,
+}
+
+impl<S: Snap, G: Gate> Snap for GatedSnap<S, G> {
+    ghost shows = { λ s. S.shows s.inner };
+
+    fn ask(&mut self, tx: u64, select: &Select) -> Result<Asked, NoMemory> {
+        if let Some(gate) = &mut self.gate {
+            gate.pass();
+        }
+        self.inner.ask(tx, select)
+    }
 }
 
 /// A backend that passes every call on to another one, and tells what that one tells. Before each query and
-/// each write it passes its gate.
+/// each write it passes its gate. A snapshot is taken at once, and passes a gate of its own before each query.
 #[derive(Drop)]
 pub struct Gated<B: Backend, G: Gate> {
     inner: B,
@@ -34,7 +55,9 @@ impl<B: Backend, G: Gate> Gated<B, G> {
     }
 }
 
-impl<B: Backend, G: Gate> Backend for Gated<B, G> {
+impl<B: Backend, G: Gate + Drop> Backend for Gated<B, G> {
+    type Snap = GatedSnap<B::Snap, G>;
+
     ghost tells = { B.tells };
 
     ghost told = { λ g. B.told g.inner };
@@ -50,6 +73,8 @@ impl<B: Backend, G: Gate> Backend for Gated<B, G> {
     ghost can_be_armed = { B.can_be_armed };
 
     ghost arming = { λ g. B.arming g.inner };
+
+    ghost snaps = { λ g. B.snaps g.inner };
 
     fn begin(&mut self, user: &Text, tx: u64) -> Result<(), BackendError> {
         self.inner.begin(user, tx)
@@ -79,6 +104,17 @@ impl<B: Backend, G: Gate> Backend for Gated<B, G> {
     fn ask(&mut self, user: &Text, tx: u64, select: &Select) -> Result<Asked, BackendError> {
         self.gate.pass();
         self.inner.ask(user, tx, select)
+    }
+
+    fn snapshot(&mut self, user: &Text) -> Result<Option<GatedSnap<B::Snap, G>>, BackendError> {
+        match self.inner.snapshot(user) {
+            Ok(Some(inner)) => {
+                let gate = self.gate.again();
+                Ok(Some(GatedSnap { inner, gate }))
+            }
+            Ok(None) => Ok(None),
+            Err(error) => Err(error),
+        }
     }
 
     fn contents(&mut self) -> Result<Db, BackendError> {

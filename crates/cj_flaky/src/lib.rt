@@ -17,5 +17,5 @@ mod wrong;
 
 pub use armable::Armable;
 pub use flaky::Flaky;
-pub use gated::{Gate, Gated};
-pub use wrong::Wrong;
+pub use gated::{Gate, Gated, GatedSnap};
+pub use wrong::{Wrong, WrongSnap};

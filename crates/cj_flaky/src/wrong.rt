@@ -3,7 +3,7 @@
 ghost use Rattle.std.specs.Prelude.{◌≡◌, length, All, IfOk};
 ghost use Rattle.cj_model.specs.Database.Outcomes.{IsAsked};
 
-use cj_backend::{Backend, BackendError, Counts};
+use cj_backend::{Backend, BackendError, Counts, Snap};
 use cj_model::{
     Answer, AnswerRows, Asked, Create, Db, Duplicate, ListOf, Name, NoMemory, Outcome, Select,
     Text, Value, Write,
@@ -72,6 +72,39 @@ fn raised_answer(alloc: Global, asked: Asked) -> Asked
     }
 }
 
+/// The answer as it is, or, of who lies, with 1 added to each INTEGER.
+fn said(alloc: Global, lies: bool, asked: Asked) -> Asked
+    requires { IsAsked asked }
+    ensures { IsAsked result }
+{
+    if lies {
+        raised_answer(alloc, asked)
+    } else {
+        asked
+    }
+}
+
+/// A snapshot of which contracts see nothing, and which lies where its backend does.
+#[derive(Drop)]
+pub struct WrongSnap<S: Snap> {
+    alloc: Global,
+    inner: S,
+    lies: bool,
+}
+
+impl<S: Snap> Snap for WrongSnap<S> {
+    ghost use Rattle.cj_flaky.specs.FlakyBackends.{nothing_told};
+
+    ghost shows = { λ _. nothing_told };
+
+    fn ask(&mut self, tx: u64, select: &Select) -> Result<Asked, NoMemory> {
+        match self.inner.ask(tx, select) {
+            Ok(asked) => Ok(said(self.alloc, self.lies, asked)),
+            Err(error) => Err(error),
+        }
+    }
+}
+
 impl<B: Backend> Wrong<B> {
     /// Wraps a backend, and says whether it lies.
     pub fn new(alloc: Global, backend: B, lies: bool) -> Wrong<B>
@@ -89,6 +122,8 @@ impl<B: Backend> Backend for Wrong<B> {
     ghost use Rattle.std.specs.Prelude.{false};
     ghost use Rattle.cj_flaky.specs.FlakyBackends.{nothing_told};
 
+    type Snap = WrongSnap<B::Snap>;
+
     ghost tells = { false };
 
     ghost told = { λ _. nothing_told };
@@ -104,6 +139,8 @@ impl<B: Backend> Backend for Wrong<B> {
     ghost can_be_armed = { B.can_be_armed };
 
     ghost arming = { λ w. B.arming w.inner };
+
+    ghost snaps = { λ w. B.snaps w.inner };
 
     fn begin(&mut self, user: &Text, tx: u64) -> Result<(), BackendError> {
         self.inner.begin(user, tx)
@@ -131,13 +168,19 @@ impl<B: Backend> Backend for Wrong<B> {
 
     fn ask(&mut self, user: &Text, tx: u64, select: &Select) -> Result<Asked, BackendError> {
         match self.inner.ask(user, tx, select) {
-            Ok(asked) => {
-                if self.lies {
-                    Ok(raised_answer(self.alloc, asked))
-                } else {
-                    Ok(asked)
-                }
-            }
+            Ok(asked) => Ok(said(self.alloc, self.lies, asked)),
+            Err(error) => Err(error),
+        }
+    }
+
+    fn snapshot(&mut self, user: &Text) -> Result<Option<WrongSnap<B::Snap>>, BackendError> {
+        match self.inner.snapshot(user) {
+            Ok(Some(inner)) => Ok(Some(WrongSnap {
+                alloc: self.alloc,
+                inner,
+                lies: self.lies,
+            })),
+            Ok(None) => Ok(None),
             Err(error) => Err(error),
         }
     }

@@ -21,8 +21,8 @@ use Rattle.cj_replica.specs.declared.replica.Caught.{Caught}
 use Rattle.cj_replica.specs.declared.replica.Caught.TheVariants.{Skipped, Did}
 use Rattle.cj_replica.specs.declared.replica.CellError.{CellError}
 use Rattle.cj_replica.specs.declared.replica.CellReadError.{CellReadError}
-use Rattle.cj_replica.specs.Cells.{CellState, CatchesUp, LoadsDatabase, SaysEntryOutcome, SaysReadAnswer, TellsAfterEntry, TellsLoaded, begun_after_entry, begun_loaded, is_skipped, position_after}
-use Rattle.cj_replica.specs.Logged.{IsLoggedAnswer, IsLoggedOutcome, IsLoggedPart}
+use Rattle.cj_replica.specs.Cells.{CellState, CatchesUp, LoadsDatabase, SaysEntryOutcome, SaysReadAnswer, SaysSnapshot, TellsAfterEntry, TellsLoaded, begun_after_entry, begun_loaded, is_skipped, position_after}
+use Rattle.cj_replica.specs.Logged.{IsLoggedAnswer, IsLoggedOutcome, IsLoggedPart, IsLoggedSnapshot}
 
 -- that of an entry more, where the replica took it
 module _ (tells : Bool) (p : Placement) (b : ℕ) (entries : List Entry) (fits : AreFit entries) (k : ℕ) (e : Entry) (there : slice_get entries k ≡ Some e) (x y : CellState) (given : List ℕ) (r : Result Caught CellError) (takes : CatchesUp x (k + 1) e given r y)
@@ -101,6 +101,12 @@ module _ (tells : Bool) (p : Placement) (b : ℕ) (entries : List Entry) (told :
       let of_part : x.0 ≡ ask (part p b (database_after entries x.1)) tx select = subst (λ (t : Option (List Slot)). IfSome t (λ db. x.0 ≡ ask db tx select)) (told_at x.1 at) says in
       of_part ∙ ask_part p b (database_after entries x.1) tx select hosted
   answer_logged tx select (Err e) says at hosted = tt
+
+  -- of a snapshot that it gives
+  pub snapshot_logged : {S : Type 0} (shows : S → Option (List Slot)) (r : Result (Option S × ℕ) CellReadError) → IfOk r (λ x. SaysSnapshot shows told x.0) → IfOk r (λ x. position ≡ Some x.1) → IsLoggedSnapshot shows p b entries r
+  snapshot_logged shows (Ok (Some s, n)) says at = subst (λ (t : Option (List Slot)). IfSome t (λ db. shows s ≡ Some db)) (told_at n at) says
+  snapshot_logged shows (Ok (None, n)) says at = tt
+  snapshot_logged shows (Err e) says at = tt
 
   -- and of what it holds
   pub contents_logged : (r : Result (List Slot) CellError) → IfOk r (λ db. IfSome told (λ held. db ≡ held)) → IsLoggedPart p b entries position r

@@ -1,11 +1,11 @@
 -- What contracts see of a replica, and what its calls give and leave.
-use Rattle.std.specs.Prelude.{◌≡◌, ◌⊎◌, ◌↔◌, ℕ, ◌+◌, ◌<◌, ◌≤◌, Bool, true, false, not, if◌then◌else◌, List, [], IfOk, IfSome, OnErr, IsErrOf}
+use Rattle.std.specs.Prelude.{◌≡◌, ◌⊎◌, ◌↔◌, ℕ, ◌+◌, ◌<◌, ◌≤◌, ltb, Bool, true, false, not, if◌then◌else◌, List, [], IfOk, IfSome, OnErr, IsErrOf}
 use Rattle.std.specs.declared.option.Option.{Option}
 use Rattle.std.specs.declared.option.Option.TheVariants.{None, Some}
 use Rattle.std.specs.Option.{option_map}
 use Rattle.std.specs.declared.result.Result.{Result}
 use Rattle.std.specs.declared.result.Result.TheVariants.{Ok, Err}
-use Rattle.cj_outside.specs.Causes.{CountsFault}
+use Rattle.cj_outside.specs.Causes.{CountsFault, next}
 use Rattle.cj_model.specs.declared.database.Slot.{Slot}
 use Rattle.cj_model.specs.declared.request.Entry.{Entry}
 use Rattle.cj_model.specs.declared.select.Select.{Select}
@@ -195,6 +195,11 @@ was_asked (Err (read_errors.Behind p)) = false
 was_asked (Err read_errors.Failed) = true
 was_asked (Err read_errors.NoMemory) = true
 
+-- the position at which a cell answers whoever must see so many entries; none where it is out or below that
+abbrev pub position_for : Option ℕ → ℕ → Result ℕ CellReadError
+position_for None least = Err read_errors.Out
+position_for (Some p) least = if ltb p least then Err (read_errors.Behind p) else Ok p
+
 -- the last login after a query: the one given if the backend answered, the one given or the one before if it failed,
 -- else the one before
 abbrev pub LogsInForAnswer : {A : Type 0} → Option (List ℕ) → List ℕ → Result A CellReadError → Option (List ℕ) → Type 0
@@ -210,8 +215,10 @@ read_error_of backend_errors.Failed = read_errors.Failed
 read_error_of backend_errors.NoMemory = read_errors.NoMemory
 
 -- A cell answers from its backend's contents, at a position not below the least, under the login given. The
--- parameters say what an answer is on visible contents, which answers are possible, and how they are counted.
+-- parameters say what an answer is on visible contents, which answers are possible, how they are counted, and which
+-- login is the last one then.
 pub record AnswersAt {A : Type 0} (SaysOf : Option (List Slot) → A → Type 0) (IsPossible : A → Type 0) (counted : ℕ → Result (A × ℕ) CellReadError → ℕ)
+    (LogsInBy : Option (List ℕ) → List ℕ → Result (A × ℕ) CellReadError → Option (List ℕ) → Type 0)
     (before : CellState) (given : List ℕ) (least : ℕ) (result : Result (A × ℕ) CellReadError) (after : CellState) : Type 0 where
   pub out : (result ≡ Err read_errors.Out) ↔ (before.position ≡ None)
   pub behind : (p : ℕ) → (result ≡ Err (read_errors.Behind p)) ↔ ((before.position ≡ Some p) × (p < least))
@@ -222,12 +229,12 @@ pub record AnswersAt {A : Type 0} (SaysOf : Option (List Slot) → A → Type 0)
   pub cause : HasReadCause before.faults after.faults result
   pub asks : after.asks ≡ counted before.asks result
   pub arming : SpendsArmingIf (was_asked result) (result ≡ Err read_errors.Failed) before.arming after.arming
-  pub login : LogsInForAnswer before.login given result after.login
+  pub login : LogsInBy before.login given result after.login
   pub same : after ≡ record before { login = after.login; faults = after.faults; asks = after.asks; arming = after.arming }
 
 -- a cell answers a query in a transaction, 0 for none
 abbrev pub ReadsAnswer : CellState → List ℕ → ℕ → Select → ℕ → Result (Asked × ℕ) CellReadError → CellState → Type 0
-ReadsAnswer before given tx select least result after = AnswersAt (λ told answer. SaysReadAnswer told tx select answer) IsAsked asks_after before given least result after
+ReadsAnswer before given tx select least result after = AnswersAt (λ told answer. SaysReadAnswer told tx select answer) IsAsked asks_after LogsInForAnswer before given least result after
 
 -- a query counts a fault exactly where the cell answers that its backend failed
 abbrev pub HasCellReadCause : ℕ → ℕ → Result (Asked × ℕ) CellReadError → Type 0
@@ -240,3 +247,28 @@ is_asked result = was_asked result
 -- the last login after a query of rows
 abbrev pub LogsInForRead : Option (List ℕ) → List ℕ → Result (Asked × ℕ) CellReadError → Option (List ℕ) → Type 0
 LogsInForRead before given result now = LogsInForAnswer before given result now
+
+-- ---- snapshots
+
+-- the snapshot, where there is one, shows the visible contents
+abbrev pub SaysSnapshot : {S : Type 0} → (S → Option (List Slot)) → Option (List Slot) → Option S → Type 0
+SaysSnapshot shows told snap = IfSome snap (λ s. IfSome told (λ db. shows s ≡ Some db))
+
+-- the count of answered queries after a call for a snapshot: one more where there is a snapshot
+abbrev pub asks_after_snapshot : {S : Type 0} → ℕ → Result (Option S × ℕ) CellReadError → ℕ
+asks_after_snapshot asks (Ok (Some snap, position)) = next asks
+asks_after_snapshot asks (Ok (None, position)) = asks
+asks_after_snapshot asks (Err e) = asks
+
+-- the last login after a call for a snapshot is that after a query, but the one before where there is no snapshot
+abbrev pub LogsInForSnapshot : {S : Type 0} → Option (List ℕ) → List ℕ → Result (Option S × ℕ) CellReadError → Option (List ℕ) → Type 0
+LogsInForSnapshot before given (Ok (Some snap, position)) now = now ≡ Some given
+LogsInForSnapshot before given (Ok (None, position)) now = now ≡ before
+LogsInForSnapshot before given (Err read_errors.Out) now = now ≡ before
+LogsInForSnapshot before given (Err (read_errors.Behind p)) now = now ≡ before
+LogsInForSnapshot before given (Err read_errors.Failed) now = (now ≡ Some given) ⊎ (now ≡ before)
+LogsInForSnapshot before given (Err read_errors.NoMemory) now = now ≡ before
+
+-- a cell gives a snapshot of what its backend holds, or none where its backend gives none
+abbrev pub TakesSnapshot : {S : Type 0} → (S → Option (List Slot)) → CellState → List ℕ → ℕ → Result (Option S × ℕ) CellReadError → CellState → Type 0
+TakesSnapshot shows before given least result after = AnswersAt (SaysSnapshot shows) (λ snap. Unit {0}) asks_after_snapshot LogsInForSnapshot before given least result after

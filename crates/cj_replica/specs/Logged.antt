@@ -26,6 +26,10 @@ IsLoggedOutcome entries n (Err d) = Unit {0}
 abbrev pub IsLoggedAnswer : Placement → ℕ → List Entry → ℕ → Select → Result (Asked × ℕ) CellReadError → Type 0
 IsLoggedAnswer p b entries tx select result = hosts_all p b select.tables ≡ true → IfOk result (λ x. x.0 ≡ ask (database_after entries x.1) tx select)
 
+-- the snapshot that a cell gives, if any, shows its part of the log's database at the position given
+abbrev pub IsLoggedSnapshot : {S : Type 0} → (S → Option (List Slot)) → Placement → ℕ → List Entry → Result (Option S × ℕ) CellReadError → Type 0
+IsLoggedSnapshot shows p b entries result = IfOk result (λ x. IfSome x.0 (λ snap. shows snap ≡ Some (part p b (database_after entries x.1))))
+
 -- the contents of a cell are its part of the log's database at its position
 abbrev pub IsLoggedPart : Placement → ℕ → List Entry → Option ℕ → Result (List Slot) CellError → Type 0
 IsLoggedPart p b entries position result = IfOk result (λ db. IfSome position (λ n. db ≡ part p b (database_after entries n)))

@@ -102,8 +102,8 @@ fn note_contents(board: &Board, seat: &mut CellSeat, contents: &Result<Db, CellE
     }
 }
 
-/// Notes on the board that the backend failed in a query, if it did.
-fn note_read(board: &Board, seat: &mut CellSeat, answer: &Result<(Asked, u64), CellReadError>)
+/// Notes on the board that the backend failed in a query or at a snapshot, if it did.
+fn note_read<A>(board: &Board, seat: &mut CellSeat, answer: &Result<(A, u64), CellReadError>)
     requires board { cell_board seat.old ≡ board_id board.now }
     ensures same { (cell_board seat.new ≡ cell_board seat.old) × (seat.new.b ≡ seat.old.b) }
     ensures view { cell_view seat.new ≡ view_after_read seat.old.b (cell_view seat.old) answer.now }
@@ -117,8 +117,8 @@ fn note_read(board: &Board, seat: &mut CellSeat, answer: &Result<(Asked, u64), C
 impl<B: Backend, D: Store> Cell<B, D> {
     ghost use Rattle.std.specs.Prelude.{◌&&◌};
     ghost use Rattle.cj_place.specs.Layouts.{placement_of};
-    ghost use Rattle.cj_replica.specs.Cells.{CatchesUp, GivesContents, IsEntryAfter, KeepsBegun, LoadsDatabase, ReadsAnswer};
-    ghost use Rattle.cj_replica.specs.Logged.{IsLoggedAnswer, IsLoggedOutcome, IsLoggedPart};
+    ghost use Rattle.cj_replica.specs.Cells.{CatchesUp, GivesContents, IsEntryAfter, KeepsBegun, LoadsDatabase, ReadsAnswer, TakesSnapshot};
+    ghost use Rattle.cj_replica.specs.Logged.{IsLoggedAnswer, IsLoggedOutcome, IsLoggedPart, IsLoggedSnapshot};
     ghost use Rattle.cj_replica.specs.Seated.{HasBackend, IsSameSeat, IsSeated, StandsWhereEnabled};
 
     /// Makes the cell of backend `b` of the placement, at position 0. The backend has taken no
@@ -218,6 +218,27 @@ impl<B: Backend, D: Store> Cell<B, D> {
         let answer = self.replica.read(login, tx, select, least);
         note_read(board, &mut self.seat, &answer);
         answer
+    }
+
+    /// Takes a snapshot of what the backend holds, under this login, and says at which position. It
+    /// is `None` from a backend that gives none. `Out` and `Behind` come before the backend is
+    /// asked: the cell has missed an entry, or is below `least`. `Failed` counts a fault. The
+    /// contents and the position stay in any case.
+    pub fn snapshot(
+        &mut self,
+        board: &Board,
+        login: &Text,
+        least: u64,
+    ) -> Result<(Option<B::Snap>, u64), CellReadError>
+        requires board { self.old.board ≡ board_id board.now }
+        ensures state { TakesSnapshot B.Snap.shows self.old.state login.now least result self.new.state }
+        ensures logged { (D.tells && B.tells) ≡ true → IsLoggedSnapshot B.Snap.shows self.old.state.placement self.old.state.b (log self.old.view.front) result }
+        ensures seat { self.new.view ≡ view_after_read self.old.state.b self.old.view result }
+        ensures same { IsSameSeat self.old self.new }
+    {
+        let snap = self.replica.snapshot(login, least);
+        note_read(board, &mut self.seat, &snap);
+        snap
     }
 
     /// Lets the seat see what the pass knows: its history, and how many faults it noted. The pass

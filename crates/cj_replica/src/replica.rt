@@ -121,7 +121,7 @@ impl<B: Backend> Model for Replica<B> {
 }
 
 impl<B: Backend> Replica<B> {
-    ghost use Rattle.cj_replica.specs.Cells.{CatchesUp, GivesContents, IsEntryAfter, KeepsBegun, LoadsDatabase, ReadsAnswer, takes_part_in_entry};
+    ghost use Rattle.cj_replica.specs.Cells.{CatchesUp, GivesContents, IsEntryAfter, KeepsBegun, LoadsDatabase, ReadsAnswer, TakesSnapshot, position_for, takes_part_in_entry};
     ghost use Rattle.cj_place.specs.Layouts.{placement_of};
 
     /// Makes the replica of backend `b` of the placement, at position 0. The backend has begun no
@@ -201,6 +201,20 @@ impl<B: Backend> Replica<B> {
         Ok(())
     }
 
+    /// The position, at which a query that must see `least` entries is answered. `Out`: the replica
+    /// has missed an entry. `Behind`: it is below `least`.
+    fn position_for(&self, least: u64) -> Result<u64, CellReadError>
+        ensures { result ≡ position_for self.now.position least }
+    {
+        let Some(position) = self.position else {
+            return Err(CellReadError::Out);
+        };
+        if position < least {
+            return Err(CellReadError::Behind(position));
+        }
+        Ok(position)
+    }
+
     /// Answers a query in transaction `tx`, 0 for none, under this login, and says at which
     /// position. `Out` and `Behind` come before the backend is asked: the replica has missed an
     /// entry, or is below `least`. The contents and the position stay in any case.
@@ -214,14 +228,24 @@ impl<B: Backend> Replica<B> {
         requires { IsWritten (request.Select select.now) }
         ensures { ReadsAnswer self.old login.now tx select.now least result self.new }
     {
-        let Some(position) = self.position else {
-            return Err(CellReadError::Out);
-        };
-        if position < least {
-            return Err(CellReadError::Behind(position));
-        }
+        let position = self.position_for(least)?;
         let answer = self.backend.ask(login, tx, select)?;
         Ok((answer, position))
+    }
+
+    /// Takes a snapshot of what the backend holds, under this login, and says at which position. It
+    /// is `None` from a backend that gives none. `Out` and `Behind` come before the backend is
+    /// asked, as in `read`. The contents and the position stay in any case.
+    pub fn snapshot(
+        &mut self,
+        login: &Text,
+        least: u64,
+    ) -> Result<(Option<B::Snap>, u64), CellReadError>
+        ensures { TakesSnapshot B.Snap.shows self.old login.now least result self.new }
+    {
+        let position = self.position_for(least)?;
+        let snap = self.backend.snapshot(login)?;
+        Ok((snap, position))
     }
 
     /// Returns how many entries the replica has taken, or `None` if it is out.
