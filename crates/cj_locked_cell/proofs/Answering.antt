@@ -8,6 +8,7 @@ use Rattle.cj_model.specs.declared.answer.Asked.{Asked}
 use Rattle.cj_model.specs.Cluster.Placements.{Placement, hosts_all, part}
 use Rattle.cj_model.specs.Database.Outcomes.{IsAsked}
 use Rattle.cj_model.specs.Database.Queries.{ask}
+use Rattle.cj_model.proofs.PartLaws.{ask_part}
 use Rattle.cj_cluster.specs.declared.event.Event.{Event}
 use Rattle.cj_cluster.specs.History.Histories.{database_after, log}
 use Rattle.cj_cluster.proofs.Pushed.{at-prefix, log-prefix, prefix_length}
@@ -110,3 +111,14 @@ answer_reading shows tells p b tx select least w (Err errors.Out) is = tt
 answer_reading shows tells p b tx select least w (Err (errors.Behind n)) is = tt
 answer_reading shows tells p b tx select least w (Err errors.Failed) is = is
 answer_reading shows tells p b tx select least w (Err errors.NoMemory) is = tt
+
+-- what a snapshot answers to a query, its backend answers at the snapshot's position
+pub snapshot_answers : {P : Type 0} (shows : P → Option (List Slot)) (tells : Bool) (p : Placement) (b tx : ℕ) (select : Select) (least : ℕ) (v : SeatView) (snap : P) (n : ℕ) → GivesSnapshotAt shows tells p b least v snap n
+    → (a : Asked) → IsAsked a → IfSome (shows snap) (λ db. a ≡ ask db tx select) → GivesAnswerAt tells p b tx select least v a n
+snapshot_answers shows tells p b tx select least v snap n gives a possible says = record {
+  possible = possible;
+  owed = gives.owed;
+  within = gives.within;
+  says = λ on hosts. (let its : a ≡ ask (part p b (database_after (log v.front) n)) tx select = subst (λ (o : Option (List Slot)). IfSome o (λ db. a ≡ ask db tx select)) (gives.shown on) says in
+      its ∙ ask_part p b (database_after (log v.front) n) tx select hosts);
+}
