@@ -1,10 +1,11 @@
 -- Entries in rising key: look-ups tell them apart; what merging, inserting and removing leave at a key.
-use Rattle.std.proofs.Common.{◌≡◌, Bool, true, false, cond, List, [], ◌∷◌, refl, ap, sym, ◌∙◌, subst, ⊎_elim, Ordering, Less, Equal, Greater, is_eq}
+use Rattle.std.proofs.Common.{arith, ◌≡◌, Bool, true, false, cond, List, [], ◌∷◌, length, refl, ap, sym, ◌∙◌, subst, ⊎_elim, Ordering, Less, Equal, Greater, is_eq}
 use Rattle.std.specs.List.{AllByRecursion}
 use Rattle.std.specs.List.Sorted.{IsStrictlySortedBy}
 use Rattle.std.specs.Map.{lookup, remove_entry, keys_of}
+use Rattle.std.proofs.lemmas.List.{nil_from_length}
 use Rattle.std.proofs.lemmas.Map.Keys.{sorted_head, sorted_tail}
-use Rattle.cj_rowstore.proofs.Common.{All, All-cons, All-head, All-tail, cases_Bool, cond-false, cond-true, given, insert_entry, is_at, is_some, IsTotalOrder, kept, match_ordering, merged, None, onto, Option, Some, tied_itself, unwrap_or}
+use Rattle.cj_rowstore.proofs.Common.{cases_Bool, cond-false, cond-true, given, insert_entry, is_at, IsTotalOrder, kept, match_ordering, merged, None, onto, Option, Some, tied_itself, unwrap_or}
 use Rattle.cj_ptree.specs.Pairs as pair
 use Rattle.cj_ptree.specs.Pairs.{with_change}
 use Rattle.cj_rowstore.specs.Entries as entries
@@ -32,6 +33,10 @@ module _ {K : Type 0} (R : K → K → Ordering) where
 
   abbrev at : {X : Type 0} → K → List (K × X) → Option X
   at q es = entries.at R q es
+
+  pub merged_none : {X : Type 0} (es : List (K × X)) → merged R es [] ≡ es
+  merged_none [] = refl
+  merged_none (e ∷ es) = ap (λ (l : List (K × _)). e ∷ l) (merged_none es)
 
   module _ (o : IsTotalOrder R) (exact : (x y : K) → R x y ≡ Equal → x ≡ y) where
     above_less : {X : Type 0} (q k : K) (es : List (K × X)) → R q k ≡ Less → AreAbove k es → AreAbove q es
@@ -259,9 +264,11 @@ module _ {K : Type 0} (R : K → K → Ordering) where
         (cases_Bool (is_at (R q) c.0))
         ∙ sym (at_merged q es (c ∷ cs) u v))
 
-  pub merged_none : {X : Type 0} (es : List (K × X)) → merged R es [] ≡ es
-  merged_none [] = refl
-  merged_none (e ∷ es) = ap (λ (l : List (K × _)). e ∷ l) (merged_none es)
+    -- changes that are a single one
+    pub merged_only : {X : Type 0} (es : List (K × X)) (cs rest : List (K × Option X)) (c : K × Option X) → PairsRise es → cs ≡ c ∷ rest → length cs ≡ 1 → with_change R es c.0 c.1 ≡ merged R es cs
+    merged_only {X} es cs rest c u is n =
+        let none : rest ≡ [] = nil_from_length rest (omega (arith, sym (ap length is) ∙ n)) in
+        sym (merged_none (with_change R es c.0 c.1)) ∙ commit_change es c [] u (tt, tt) ∙ ap (λ (l : List (K × Option X)). merged R es (c ∷ l)) (sym none) ∙ ap (merged R es) (sym is)
 
   -- what a map says of its keys
   above_from : {X : Type 0} (k : K) (es : List (K × X)) → AllByRecursion (λ y. R k y ≡ Less) (keys_of es) → AreAbove k es

@@ -2,8 +2,8 @@
 use Rattle.std.proofs.Common.{◌≡◌, ℕ, Bool, true, false, cond, List, [], ◌∷◌, map, refl, ap, sym, ◌∙◌, subst, ⊎_elim, Ordering, Less, Equal, Greater, is_eq}
 use Rattle.std.proofs.lemmas.List.{map-id}
 use Rattle.std.specs.Ordering.{is_le}
-use Rattle.std.specs.Prelude.{All, filter, fold, length, not, option_map, unwrap_or}
-use Rattle.cj_rowstore.proofs.Common.{All-cons, All-head, All-nil, All-tail, at, by_key, cases_Bool, cell,  cond-false, cond-true, insert_entry, is_at, kept, AreAbove, PairsRise, match_ordering, merged, None, Option, ordering_reverse, put_by, remove_entry, Rises, row_with_key, rows_from, Some, tied_itself, Value, value_cmp, value_exact, value_total, values_of}
+use Rattle.std.specs.Prelude.{All, filter, fold, not}
+use Rattle.cj_rowstore.proofs.Common.{All-cons, All-head, All-nil, All-tail, at, by_key, cases_Bool, cell, cond-false, cond-true, insert_entry, is_at, AreAbove, PairsRise, match_ordering, merged, None, Option, ordering_reverse, put_by, remove_entry, Rises, row_with_key, rows_from, Some, tied_itself, Value, value_cmp, value_exact, value_total, values_of}
 use Rattle.cj_model.proofs.RisingLaws.{by_order}
 use Rattle.cj_ptree.specs.Pairs.{retained, with_change}
 use Rattle.cj_rowstore.specs.RowEntries.{KeyedRows, RowEntries, from_key, keyed, puts, removals}

@@ -89,6 +89,7 @@ impl Version {
         ensures ok { OnOk result (self.new ≡ merged value_cmp self.old changes) }
         ensures err { OnErr result (self.new ≡ self.old) }
     {
+        self.rows.rises();
         if changes.len() != 1 {
             *self = self.changed(changes, count)?;
             return Ok(());
