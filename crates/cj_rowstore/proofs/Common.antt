@@ -19,7 +19,6 @@ pub use Rattle.cj_model.proofs.Common.{All-cons, All-head, All-nil, All-tail, Is
 pub use Rattle.std.specs.BTreeMap.{insert_entry, is_at}
 pub use Rattle.std.specs.Borrow.{Bor}
 pub use Rattle.std.specs.Map.{remove_entry, values_of}
-pub use Rattle.std.specs.Map.Iter.{deref_pair}
 pub use Rattle.std.specs.Ordering.{match_ordering, ordering_reverse}
 pub use Rattle.std.specs.Prelude.{All, filter, fold, is_some, option_copied, reverse, unwrap_or}
 pub use Rattle.std.specs.declared.option.Option.{Option}

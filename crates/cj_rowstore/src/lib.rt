@@ -1,12 +1,12 @@
 //! One table as a persistent ordered map of rows by key, with the uncommitted version of one transaction (its draft).
 //!
 //! Contracts see a `StoredTable` as a slot of the vocabulary, and a `View` as the table that one transaction
-//! sees. A scan is seen as the rows that are left, in rising or falling key. `commit` and `abort` can't fail. If another
-//! call runs out of memory, every transaction sees what it saw before. A snapshot copies no row.
+//! sees. A scan is seen as the rows that are left, in rising or falling key. `commit` and `abort` can't fail. If
+//! another call runs out of memory, every transaction sees what it saw before. A snapshot copies no row.
 //!
-//! `version` has the rows at one time, in a map of `cj_ptree`, and `row_map` changes of them. The layout of rows is in
-//! `stored_row`, walks are in `scan` and `scan_back`. A new way to edit or test rows in place implements `RowEdit` or
-//! `RowTest`. Read `specs/RowEntries` and `specs/Stored` first, then `proofs/EntryLaws` and `proofs/RowLaws`.
+//! `version` has the rows at one time, in a map of `cj_ptree`, and `row_map` has changes of them. The layout of rows is
+//! in `stored_row`, walks are in `scan` and `scan_back`. A new way to edit or test rows in place implements `RowEdit`
+//! or `RowTest`. Read `specs/RowEntries` and `specs/Stored` first, then `proofs/EntryLaws` and `proofs/RowLaws`.
 #![tactic(auto)]
 
 mod keys;
