@@ -3,8 +3,8 @@ use denote.RattleType.{RattleType}
 use denote.Param.Send.{IsSend, IsSync, sendable}
 use Rattle.cj_beside.specs.contracts.backend.Beside as beside
 
-pub beside_send : (B D : RattleType) → IsSend B → IsSend (beside.the_row B D)
-beside_send B D sb = search sendable depth 20
+pub beside_send : (B D Snap : RattleType) → IsSend B → IsSend (beside.the_row B D Snap)
+beside_send B D Snap sb = search sendable depth 20
 
-pub beside_sync : (B D : RattleType) → IsSync B → IsSync (beside.the_row B D)
-beside_sync B D sb = search sendable depth 20
+pub beside_sync : (B D Snap : RattleType) → IsSync B → IsSync (beside.the_row B D Snap)
+beside_sync B D Snap sb = search sendable depth 20

@@ -41,6 +41,8 @@ impl<B: Backend, D: Store> Beside<B, D> {
 impl<B: Backend, D: Store> Backend for Beside<B, D> {
     ghost use Rattle.std.specs.Prelude.{◌&&◌};
 
+    type Snap = B::Snap;
+
     ghost tells = { B.tells && D.tells };
 
     ghost told = { λ b. told_beside D.tells (B.told b.inner) };
@@ -56,6 +58,8 @@ impl<B: Backend, D: Store> Backend for Beside<B, D> {
     ghost can_be_armed = { B.can_be_armed };
 
     ghost arming = { λ b. B.arming b.inner };
+
+    ghost snaps = { λ b. B.snaps b.inner };
 
     fn begin(&mut self, user: &Text, tx: u64) -> Result<(), BackendError> {
         self.inner.begin(user, tx)
@@ -83,6 +87,10 @@ impl<B: Backend, D: Store> Backend for Beside<B, D> {
 
     fn ask(&mut self, user: &Text, tx: u64, select: &Select) -> Result<Asked, BackendError> {
         self.inner.ask(user, tx, select)
+    }
+
+    fn snapshot(&mut self, user: &Text) -> Result<Option<B::Snap>, BackendError> {
+        self.inner.snapshot(user)
     }
 
     fn contents(&mut self) -> Result<Db, BackendError> {

@@ -4,7 +4,7 @@ ghost use Rattle.std.specs.Prelude.{◌≡◌, ◌↔◌, ◌==◌, Some, None, 
 ghost use Rattle.cj_model.specs.Database.Storable.{writers};
 ghost use Rattle.cj_model.specs.Database.Tables.{IsDatabase};
 
-use cj_backend::{Backend, BackendError, Counts};
+use cj_backend::{Backend, BackendError, Counts, NoSnap};
 use cj_model::{Asked, Create, Db, Duplicate, Name, NoMemory, Outcome, Select, Text, Write};
 use cj_query::select;
 use cj_table::Tables;
@@ -136,6 +136,8 @@ impl Backend for MemBackend {
     ghost use Rattle.cj_backend.specs.Backends.{HasBackendCause, SaysOutcome, SaysAnswer, told_after, LogsIn, LogsInToAsk, IsBegun, begun_with, begun_without, told_loaded, begun_loaded, asks_after, SpendsArming};
     ghost use Rattle.cj_mem.specs.MemoryBackends.{held_after, held_loaded, never_armed};
 
+    type Snap = NoSnap;
+
     ghost tells = { true };
 
     ghost told = { λ b. b.told };
@@ -151,6 +153,8 @@ impl Backend for MemBackend {
     ghost can_be_armed = { false };
 
     ghost arming = { λ _. never_armed };
+
+    ghost snaps = { λ _. false };
 
     fn begin(&mut self, user: &Text, tx: u64) -> Result<(), BackendError>
         requires { ¬ Contains self.old.begun tx }
@@ -279,6 +283,10 @@ impl Backend for MemBackend {
         self.enter(user)?;
         self.asks = self.asks.saturating_add(1);
         Ok(answer)
+    }
+
+    fn snapshot(&mut self, _user: &Text) -> Result<Option<NoSnap>, BackendError> {
+        Ok(None)
     }
 
     fn contents(&mut self) -> Result<Db, BackendError>
