@@ -4,7 +4,9 @@ ghost use Rattle.std.specs.Prelude.{◌≡◌, ◌↔◌, ◌==◌, Some, None, 
 ghost use Rattle.cj_model.specs.Database.Storable.{writers};
 ghost use Rattle.cj_model.specs.Database.Tables.{IsDatabase};
 
-use cj_backend::{Backend, BackendError, Counts, NoSnap};
+use crate::shared_tables::SharedTables;
+use crate::snapshot::MemSnap;
+use cj_backend::{Backend, BackendError, Counts};
 use cj_model::{Asked, Create, Db, Duplicate, Name, NoMemory, Outcome, Select, Text, Write};
 use cj_query::select;
 use cj_table::Tables;
@@ -18,7 +20,7 @@ use std::marker::Model;
 #[derive(Drop)]
 pub struct MemBackend {
     alloc: Global,
-    tables: Tables,
+    tables: SharedTables,
     /// Whether no change has run out of memory since the last load that was carried out.
     known: bool,
     asks: u64,
@@ -71,7 +73,7 @@ impl MemBackend {
     {
         MemBackend {
             alloc,
-            tables: Tables::new(alloc),
+            tables: SharedTables::new(alloc),
             known: true,
             asks: 0,
             begun: Vec::new(alloc),
@@ -125,7 +127,8 @@ impl MemBackend {
 }
 
 impl Backend for MemBackend {
-    ghost use Rattle.std.specs.Prelude.{true, false, Contains, IfSome};
+    ghost use Rattle.std.specs.Prelude.{true, false, is_some, Contains, IfSome};
+    ghost use Rattle.std.specs.Arc.{arc_value};
     ghost use Rattle.cj_model.specs.declared.request.Act.TheVariants as act;
     ghost use Rattle.cj_model.specs.declared.request.Request.TheVariants as request;
     ghost use Rattle.cj_model.specs.Sql.WrittenRequests.{IsWritten};
@@ -133,10 +136,10 @@ impl Backend for MemBackend {
     ghost use Rattle.cj_model.specs.Database.Steps.{acted};
     ghost use Rattle.cj_model.specs.Database.Storable.{IsStorable};
     ghost use Rattle.cj_model.specs.Database.Outcomes.{IsOutcome, IsAsked};
-    ghost use Rattle.cj_backend.specs.Backends.{HasBackendCause, SaysOutcome, SaysAnswer, told_after, LogsIn, LogsInToAsk, IsBegun, begun_with, begun_without, told_loaded, begun_loaded, asks_after, SpendsArming};
+    ghost use Rattle.cj_backend.specs.Backends.{HasBackendCause, SaysOutcome, SaysAnswer, told_after, LogsIn, LogsInToAsk, LogsInToSnapshot, IsBegun, begun_with, begun_without, told_loaded, begun_loaded, asks_after, asks_after_snapshot, SpendsArming};
     ghost use Rattle.cj_mem.specs.MemoryBackends.{held_after, held_loaded, never_armed};
 
-    type Snap = NoSnap;
+    type Snap = MemSnap;
 
     ghost tells = { true };
 
@@ -154,7 +157,7 @@ impl Backend for MemBackend {
 
     ghost arming = { λ _. never_armed };
 
-    ghost snaps = { λ _. false };
+    ghost snaps = { λ _. true };
 
     fn begin(&mut self, user: &Text, tx: u64) -> Result<(), BackendError>
         requires { ¬ Contains self.old.begun tx }
@@ -278,15 +281,27 @@ impl Backend for MemBackend {
         ensures asks { self.new.asks ≡ asks_after self.old.asks result }
         ensures same { self.new ≡ record self.old { login = self.new.login; asks = self.new.asks } }
     {
-        self.tables.legal();
-        let answer = select(self.alloc, query, &self.tables, tx)?;
+        let tables = self.tables.tables();
+        tables.legal();
+        let answer = select(self.alloc, query, tables, tx)?;
         self.enter(user)?;
         self.asks = self.asks.saturating_add(1);
         Ok(answer)
     }
 
-    fn snapshot(&mut self, _user: &Text) -> Result<Option<NoSnap>, BackendError> {
-        Ok(None)
+    fn snapshot(&mut self, user: &Text) -> Result<Option<MemSnap>, BackendError>
+        ensures given { IfOk result (λ snap. is_some snap ≡ true) }
+        ensures held_shown { IfOk result (λ snap. IfSome snap (λ s. arc_value s.tables ≡ self.old.held)) }
+        ensures cause { HasBackendCause 0 0 result }
+        ensures arming { SpendsArming never_armed never_armed result }
+        ensures login { LogsInToSnapshot self.old.login user.now result self.new.login }
+        ensures asks { self.new.asks ≡ asks_after_snapshot self.old.asks result }
+        ensures same { self.new ≡ record self.old { login = self.new.login; asks = self.new.asks } }
+    {
+        let tables = self.tables.snapshot()?;
+        self.enter(user)?;
+        self.asks = self.asks.saturating_add(1);
+        Ok(Some(MemSnap::of(self.alloc, tables)))
     }
 
     fn contents(&mut self) -> Result<Db, BackendError>
@@ -297,7 +312,7 @@ impl Backend for MemBackend {
         ensures arming { SpendsArming never_armed never_armed result }
         ensures same { self.new ≡ self.old }
     {
-        Ok(self.tables.to_db()?)
+        Ok(self.tables.tables().to_db()?)
     }
 
     /// Allocates everything before the backend changes, so that an error leaves the earlier database in
@@ -314,7 +329,7 @@ impl Backend for MemBackend {
     {
         match restored(self.alloc, db) {
             Ok((tables, begun)) => {
-                self.tables = tables;
+                self.tables = SharedTables::of(self.alloc, tables);
                 self.begun = begun;
                 self.known = true;
                 Ok(())

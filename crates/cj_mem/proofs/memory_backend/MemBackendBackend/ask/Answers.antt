@@ -15,13 +15,15 @@ from_told false db told tx query a is same = subst (λ (t : Option (List Slot)).
 
 pub returns-clause-answer : goal.returns-clause-answer
 returns-clause-answer c =
-    from_told c.self.inside.known c.self.inside.tables c.args.self.now.told c.args.tx c.args.query.now c.in_ok-answer.answer (ap (λ (m : MemoryState). m.told) c.self.view_is) c.in_ok-answer.ensures.asked
+    let query = c.args.query.now in
+    from_told c.self.inside.known c.self.inside.tables c.args.self.now.told c.args.tx query c.in_ok-answer.answer (ap (λ (m : MemoryState). m.told) c.self.view_is)
+    (c.in_ok-answer.ensures.asked ∙ ap (λ (db : List Slot). ask db c.args.tx query) c.tables-tables.ensures)
 
 pub returns-clause-held_answer : goal.returns-clause-held_answer
 returns-clause-held_answer c =
-    let same : c.self.inside.tables ≡ c.args.self.now.held = ap (λ (m : MemoryState). m.held) c.self.view_is in
+    let same : c.tables-tables.result.now ≡ c.args.self.now.held = c.tables-tables.ensures ∙ ap (λ (m : MemoryState). m.held) c.self.view_is in
     c.in_ok-answer.ensures.asked ∙ ap (λ (held : List Slot). ask held c.args.tx c.args.query.now) same
 
 pub returns-clause-possible : goal.returns-clause-possible
 returns-clause-possible c =
-    asked_is c.self.inside.tables c.args.tx c.args.query.now c.in_ok-answer.answer c.legal.ensures (read_askable c.requires.text c.args.query.now c.requires.reads) c.in_ok-answer.ensures.asked c.in_ok-answer.ensures.rows
+    asked_is c.tables-tables.result.now c.args.tx c.args.query.now c.in_ok-answer.answer c.legal.ensures (read_askable c.requires.text c.args.query.now c.requires.reads) c.in_ok-answer.ensures.asked c.in_ok-answer.ensures.rows
