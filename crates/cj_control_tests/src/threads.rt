@@ -89,6 +89,10 @@ impl Gate for Meeting {
         }
         self.missed.store(1, Ordering::SeqCst);
     }
+
+    fn again(&self) -> Option<Meeting> {
+        made(&self.mine, &self.other, &self.missed).ok()
+    }
 }
 
 /// A gate at which writes meet, and reads do not.
@@ -102,6 +106,11 @@ impl Gate for WriteMeeting {
 
     fn pass_write(&mut self) {
         self.meeting.pass();
+    }
+
+    fn again(&self) -> Option<WriteMeeting> {
+        let meeting = self.meeting.again()?;
+        Some(WriteMeeting { meeting })
     }
 }
 

@@ -88,6 +88,11 @@ impl Gate for Held {
             self.flags.missed.store(1, Ordering::SeqCst);
         }
     }
+
+    fn again(&self) -> Option<Held> {
+        let flags = Arc::try_clone(&self.flags).ok()?;
+        Some(Held { flags })
+    }
 }
 
 /// A backend of the tests.

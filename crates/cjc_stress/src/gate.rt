@@ -37,4 +37,12 @@ impl<R: Clock + Copy> Gate for Slow<R> {
     fn pass_write(&mut self) {
         pause(&self.clock, self.write);
     }
+
+    fn again(&self) -> Option<Slow<R>> {
+        Some(Slow {
+            clock: self.clock,
+            query: self.query,
+            write: self.write,
+        })
+    }
 }
