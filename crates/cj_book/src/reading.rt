@@ -1,20 +1,19 @@
 //! Calls that read a book and change nothing.
 
-ghost use Rattle.std.specs.Prelude.{◌≡◌, ◌↔◌, ◌-◌, ◌^◌, ◌<◌, ◌&&◌, ℕ, true, false, None, [], ◌∷◌, ◌++◌, length, slice_get, option_copied, option_map, IsNone, IfSome, IfOk, IsTrue};
+ghost use Rattle.std.specs.Prelude.{◌≡◌, ◌↔◌, ◌-◌, ◌^◌, ◌<◌, ◌&&◌, ℕ, true, false, None, [], ◌∷◌, ◌++◌, length, slice_get, option_copied, IsNone, IfSome, IfOk, IsTrue};
 ghost use Rattle.std.specs.List.{list_any};
 ghost use Rattle.std.specs.Str.{bytes_eq};
 ghost use Rattle.cj_model.specs.Sql.PlainRequests.{request_of};
 ghost use Rattle.cj_model.specs.Cluster.Placements as placements;
 ghost use Rattle.cj_model.specs.Cluster.Placements.{concerns, hosts_all, needs};
 ghost use Rattle.cj_model.specs.Cluster.Masks.{in_mask};
-ghost use Rattle.cj_model.specs.Cluster.Caching.{after_keep, answer_kept, cached_entry};
+ghost use Rattle.cj_model.specs.Cluster.Caching.{after_keep, answer_kept};
 ghost use Rattle.cj_model.specs.declared.cached.Cached.{Cached};
 ghost use Rattle.cj_cluster.specs.declared.event.Event.{Event};
 ghost use Rattle.cj_cluster.specs.History.Histories as histories;
 ghost use Rattle.cj_cluster.specs.History.Histories.{log, is_free, tx_of};
 ghost use Rattle.cj_cluster.specs.History.Legality.{IsFitEntry};
 ghost use Rattle.cj_cluster.specs.History.Answering.{HasServer, HasNoServer};
-ghost use Rattle.cj_cache.specs.Kept.{kept_parts, shared_parts};
 ghost use Rattle.cj_book.specs.Books as books;
 ghost use Rattle.cj_book.specs.Books.{placement_at, has_session, is_candidate, is_target, Checks, HasRoom, IsPrepared};
 
@@ -22,7 +21,6 @@ use crate::book::Book;
 use crate::error::BookError;
 use crate::pending::Prepared;
 use crate::touching::touched_behind;
-use cj_cache::SharedAnswer;
 use cj_cluster::BoxedEntry;
 use cj_log::LogMarker;
 use cj_model::{Act, Answer, BACKEND_LIMIT, EVENT_LIMIT, Entry, Name, NoMemory, Select, has_bit};
@@ -283,15 +281,6 @@ impl Book {
         ensures { option_copied result ≡ answer_kept select.now self.now.state.cache }
     {
         self.cache.kept(select)
-    }
-
-    /// Returns a share of the answer that the cache keeps of the query, with its log position. Takes constant time, so
-    /// that a lock on the book is short, and the rows are copied after it. No hit or miss is counted.
-    /// Fails only where the share can't be counted.
-    pub fn shared(&self, select: &Select) -> Result<Option<SharedAnswer>, NoMemory>
-        ensures { IfOk result (λ shared. option_map shared_parts shared ≡ option_map kept_parts (cached_entry select.now self.now.state.cache.entries)) }
-    {
-        self.cache.shared(select)
     }
 
     /// Returns true only if the cache keeps no answer that it is given.

@@ -13,8 +13,7 @@ use Rattle.cj_cache.proofs.Common.{Cached, Held, Select, same_statement, same_st
 use Rattle.lru.specs.LruCache.{LruCache, promoted, put_entries}
 use Rattle.cj_model.specs.Cluster.Caching.{brought_to_front, cached_entry, without}
 use Rattle.cj_model.proofs.CachingLaws.{none_without}
-use Rattle.cj_model.specs.declared.answer.Answer.{Answer}
-use Rattle.cj_cache.specs.Kept.{cached, kept_parts, popped_each, without_each}
+use Rattle.cj_cache.specs.Kept.{cached, popped_each, without_each}
 
 abbrev Pairs : Type 0
 Pairs = List (Select × Held)
@@ -41,13 +40,6 @@ pub answer_shown : (s : Select) (es : Pairs) → option_map (λ (h : Held). h.an
 answer_shown s es = ap (option_map (λ (h : Held). h.answer.value)) (value_of_entry s es) ∙ each (lookup_entry (same_statement s) es) ∙ ap (option_map (λ (e : Cached). e.answer)) (sym (entry_shown s es))
   where
     each : (o : Option (Select × Held)) → option_map (λ (h : Held). h.answer.value) (option_map (λ (p : Select × Held). p.1) o) ≡ option_map (λ (e : Cached). e.answer) (option_map cached o)
-    each None = refl
-    each (Some p) = refl
-
-pub share_shown : (s : Select) (es : Pairs) → option_map {U = Answer × ℕ} (λ (h : Held). (h.answer.value, h.at)) (lookup (same_statement s) es) ≡ option_map kept_parts (cached_entry s (map cached es))
-share_shown s es = ap (option_map {U = Answer × ℕ} (λ (h : Held). (h.answer.value, h.at))) (value_of_entry s es) ∙ each (lookup_entry (same_statement s) es) ∙ ap (option_map kept_parts) (sym (entry_shown s es))
-  where
-    each : (o : Option (Select × Held)) → option_map {U = Answer × ℕ} (λ (h : Held). (h.answer.value, h.at)) (option_map (λ (p : Select × Held). p.1) o) ≡ option_map kept_parts (option_map cached o)
     each None = refl
     each (Some p) = refl
 

@@ -1,6 +1,6 @@
 //! The result cache.
 
-ghost use Rattle.std.specs.Prelude.{◌≡◌, true, not, ℕ, [], ◌∷◌, filter, is_some, take, option_copied, option_map, IfOk, OnOk, OnErr};
+ghost use Rattle.std.specs.Prelude.{◌≡◌, true, not, ℕ, [], ◌∷◌, filter, is_some, take, option_copied, option_map, slice_get, IfOk, OnOk, OnErr};
 ghost use Rattle.cj_model.specs.Cluster.Caching.{brought_to_front, counted_up, without_tables, empty_cache, cached_entry, has_answer, after_look, after_keep, without};
 ghost use Rattle.cj_model.specs.declared.cached.Cached.{Cached};
 ghost use Rattle.cj_model.specs.Cluster.Caching as caching;
@@ -71,6 +71,16 @@ fn bring_to_front(held: &mut Option<LruCache<Select, Held>>, select: &Select) ->
     match held {
         None => false,
         Some(held) => held::bring_to_front(held, select),
+    }
+}
+
+/// A share of the answer in front; `None` if nothing is kept. Fails only where the share can't be counted.
+fn share_of_front(held: &Option<LruCache<Select, Held>>) -> Result<Option<SharedAnswer>, NoMemory>
+    ensures { IfOk result (λ shared. option_map shared_parts shared ≡ option_map kept_parts (slice_get (entries_held held.now) 0)) }
+{
+    match held {
+        None => Ok(None),
+        Some(held) => held::share_of_front(held),
     }
 }
 
@@ -147,17 +157,20 @@ impl Cache {
         }
     }
 
-    /// A share of the kept answer of exactly this statement; `None` if none is kept. Counts nothing.
+    /// Looks up exactly this statement as `touch` does, and answers a share of its answer; `None` if none is kept.
     ///
     /// Under a lock a share is taken in constant time, and the rows are copied after. The answer stays readable when
-    /// the cache drops it. Fails only where the share can't be counted.
-    pub fn shared(&self, select: &Select) -> Result<Option<SharedAnswer>, NoMemory>
-        ensures { IfOk result (λ shared. option_map shared_parts shared ≡ option_map kept_parts (cached_entry select.now self.now.entries)) }
+    /// the cache drops it. Fails only where the share of an answer that is kept can't be counted; the look-up is counted
+    /// all the same.
+    pub fn look_up(&mut self, select: &Select) -> Result<Option<SharedAnswer>, NoMemory>
+        ensures shared { IfOk result (λ shared. option_map shared_parts shared ≡ option_map kept_parts (cached_entry select.now self.old.entries)) }
+        ensures err { OnErr result (has_answer select.now self.old ≡ true) }
+        ensures looked { self.new ≡ after_look select.now self.old }
     {
-        match &self.held {
-            None => Ok(None),
-            Some(held) => held::share_of(held, select),
+        if !self.touch(select) {
+            return Ok(None);
         }
+        share_of_front(&self.held)
     }
 
     /// Keeps the answer of a statement, at position `at` of the log, in front.

@@ -2,7 +2,7 @@
 //!
 //! Answers are shared. A reader that holds a lock takes a share in constant time, and copies the rows after it.
 
-ghost use Rattle.std.specs.Prelude.{◌≡◌, false, not, [], ◌∷◌, All, filter, is_some, option_copied, option_map, take, IfOk, OnOk, OnErr};
+ghost use Rattle.std.specs.Prelude.{◌≡◌, false, not, [], ◌∷◌, All, filter, is_some, option_copied, option_map, slice_get, take, IfOk, OnOk, OnErr};
 ghost use Rattle.std.specs.List.{list_any};
 ghost use Rattle.std.specs.Str.{bytes_eq};
 ghost use Rattle.cj_model.specs.Cluster.Caching.{brought_to_front, cached_entry, without};
@@ -44,21 +44,18 @@ pub fn answer_of<'a>(held: &'a LruCache<Select, Held>, select: &Select) -> Optio
     }
 }
 
-/// A share of the answer of a statement; `None` if the map has none. Fails only where the share can't be counted.
-#[tactic(auto, using(crate::proofs::Maps::share_shown))]
-pub fn share_of(
-    held: &LruCache<Select, Held>,
-    select: &Select,
-) -> Result<Option<SharedAnswer>, NoMemory>
-    ensures { IfOk result (λ shared. option_map shared_parts shared ≡ option_map kept_parts (cached_entry select.now (entries_of_map held.now))) }
+/// A share of the answer of the entry in front, in constant time; `None` if the map is empty. Fails only where the share
+/// can't be counted.
+pub fn share_of_front(held: &LruCache<Select, Held>) -> Result<Option<SharedAnswer>, NoMemory>
+    ensures { IfOk result (λ shared. option_map shared_parts shared ≡ option_map kept_parts (slice_get (entries_of_map held.now) 0)) }
 {
-    match held.peek(select) {
+    match held.peek_mru() {
         None => Ok(None),
-        Some(found) => {
-            let answer = Arc::try_clone(&found.answer)?;
+        Some((_, front)) => {
+            let answer = Arc::try_clone(&front.answer)?;
             Ok(Some(SharedAnswer {
                 answer,
-                at: found.at,
+                at: front.at,
             }))
         }
     }

@@ -79,15 +79,20 @@ struct Meeting {
     missed: Flag,
 }
 
+/// Looks for a flag. Where it gives up, it says so.
+fn await_flag(flag: &Flag, missed: &Flag) {
+    for _ in 0..LOOKS {
+        if flag.load(Ordering::SeqCst) == 1 {
+            return;
+        }
+    }
+    missed.store(1, Ordering::SeqCst);
+}
+
 impl Gate for Meeting {
     fn pass(&mut self) {
         self.mine.store(1, Ordering::SeqCst);
-        for _ in 0..LOOKS {
-            if self.other.load(Ordering::SeqCst) == 1 {
-                return;
-            }
-        }
-        self.missed.store(1, Ordering::SeqCst);
+        await_flag(&self.other, &self.missed);
     }
 
     fn again(&self) -> Option<Meeting> {
@@ -112,6 +117,46 @@ impl Gate for WriteMeeting {
         let meeting = self.meeting.again()?;
         Some(WriteMeeting { meeting })
     }
+}
+
+/// A gate at which the second write waits for a query, and a query for the third write. So the query is asked before the
+/// second write, and answered after it.
+#[derive(Drop)]
+struct Overtaken {
+    asked: Flag,
+    written: Flag,
+    missed: Flag,
+    writes: u64,
+}
+
+impl Gate for Overtaken {
+    fn pass(&mut self) {
+        self.asked.store(1, Ordering::SeqCst);
+        await_flag(&self.written, &self.missed);
+    }
+
+    fn pass_write(&mut self) {
+        self.writes = self.writes.saturating_add(1);
+        match self.writes {
+            1 => {}
+            2 => await_flag(&self.asked, &self.missed),
+            _ => self.written.store(1, Ordering::SeqCst),
+        }
+    }
+
+    fn again(&self) -> Option<Overtaken> {
+        overtaken(&self.asked, &self.written, &self.missed).ok()
+    }
+}
+
+/// Makes such a gate over these flags, at which no write has come.
+fn overtaken(asked: &Flag, written: &Flag, missed: &Flag) -> Result<Overtaken, Fail> {
+    Ok(Overtaken {
+        asked: Arc::try_clone(asked)?,
+        written: Arc::try_clone(written)?,
+        missed: Arc::try_clone(missed)?,
+        writes: 0,
+    })
 }
 
 /// Makes a meeting of who raises the first flag and looks for the other.
@@ -151,6 +196,44 @@ fn a_read_is_answered_while_another_is_asked(rt: HostRuntime) -> Result<(), Fail
         replies: &[K_2],
     };
     let steps = [Step::Session(first), Step::Both(of_one, of_two)];
+    let _backends = play(&rt, alloc, one, other, Vec::new(alloc), &steps)?;
+    assert!(rt; missed.load(Ordering::SeqCst) == 0);
+    Ok(())
+}
+
+/// The query waits at its gate while another session's INSERT is answered, and then has the rows before that.
+#[test]
+fn an_insert_is_answered_while_a_read_waits(rt: HostRuntime) -> Result<(), Fail> {
+    let alloc = rt.alloc();
+    let asked = Arc::new(alloc, AtomicU64::new(0))?;
+    let written = Arc::new(alloc, AtomicU64::new(0))?;
+    let missed = Arc::new(alloc, AtomicU64::new(0))?;
+    let one = gated(alloc, overtaken(&asked, &written, &missed)?);
+    let other = gated(alloc, overtaken(&asked, &written, &missed)?);
+    let first = Talk {
+        sent: &[Query(CREATE), Query("INSERT INTO t VALUES (1)")],
+        replies: &[DONE_0, DONE_1],
+    };
+    let read = Talk {
+        sent: &[Query("SELECT k FROM t ORDER BY k")],
+        replies: &[K_1],
+    };
+    let write = Talk {
+        sent: &[
+            Query("INSERT INTO t VALUES (2)"),
+            Query("INSERT INTO t VALUES (3)"),
+        ],
+        replies: &[DONE_1, DONE_1],
+    };
+    let last = Talk {
+        sent: &[Query("SELECT k FROM t ORDER BY k LIMIT 2")],
+        replies: &[K_1_2],
+    };
+    let steps = [
+        Step::Session(first),
+        Step::Both(read, write),
+        Step::Session(last),
+    ];
     let _backends = play(&rt, alloc, one, other, Vec::new(alloc), &steps)?;
     assert!(rt; missed.load(Ordering::SeqCst) == 0);
     Ok(())

@@ -1,7 +1,7 @@
 -- What INSERT, UPDATE and DELETE are to change of a table.
 use Rattle.std.proofs.Common.{◌≡◌, ℕ, zero, suc, ◌+◌, ◌<◌, ◌≤◌, Bool, true, false, cond, List, [], ◌∷◌, ◌++◌, length, map, get_or, take, refl, ap, sym, ◌∙◌, subst, ⊎_elim, Ordering, is_eq, arith}
 use Rattle.std.specs.Prelude.{filter, find, fold, not, is_some, count_by, ◌||◌, ◌&&◌, option_copied}
-use Rattle.cj_rowstore.proofs.Common.{Bor, IsChangeOf, KeysRise, at, match_ordering, merged, value_cmp, value_exact, value_total, values_of}
+use Rattle.cj_rowstore.proofs.Common.{Bor, IsChangeOf, PairsRise, at, match_ordering, merged, value_cmp, value_exact, value_total, values_of}
 use Rattle.std.specs.declared.option.Option.TheVariants.{None, Some}
 use Rattle.std.proofs.lemmas.Bool.{cases_Bool, or_left, or_right, or_parts}
 use Rattle.std.proofs.lemmas.List.{length-map, map-append, map_more}
@@ -155,12 +155,12 @@ length_put k rows (r ∷ new) h g =
 -- ---- plans
 
 -- changes that leave rows
-pub change_into : (k : ℕ) (old rows : List (List Value)) (changes : RowEntries) (n : ℕ) → KeysRise value_cmp changes → merged value_cmp (keyed k old) changes ≡ keyed k rows → n ≡ length rows → IsChangeOf k old changes n
+pub change_into : (k : ℕ) (old rows : List (List Value)) (changes : RowEntries) (n : ℕ) → PairsRise value_cmp changes → merged value_cmp (keyed k old) changes ≡ keyed k rows → n ≡ length rows → IsChangeOf k old changes n
 change_into k old rows changes n r e c =
     let values : values_of (merged value_cmp (keyed k old) changes) ≡ rows = ap values_of e ∙ values_keyed k rows in
     record { rises = r; rows = record { own_keys = e ∙ ap (keyed k) (sym values); count = c ∙ ap length (sym values) } }
 
-leaves : (t : Table) (p : Plan) (rows : List (List Value)) (n : ℕ) → KeysRise value_cmp p.changes → merged value_cmp (keyed t.schema.key t.rows) p.changes ≡ keyed t.schema.key rows → p.count ≡ length rows → p.written ≡ n → Leaves t p rows n
+leaves : (t : Table) (p : Plan) (rows : List (List Value)) (n : ℕ) → PairsRise value_cmp p.changes → merged value_cmp (keyed t.schema.key t.rows) p.changes ≡ keyed t.schema.key rows → p.count ≡ length rows → p.written ≡ n → Leaves t p rows n
 leaves t p rows n r e c w = record {
   change = change_into t.schema.key t.rows rows p.changes p.count r e c;
   after = ap values_of e ∙ values_keyed t.schema.key rows;
@@ -170,7 +170,7 @@ leaves t p rows n r e c w = record {
 pub delete_leaves : (t : Table) (is : IsTable t) (p : Plan) (test : List Value → Bool) → p.changes ≡ removals t.schema.key (filter test t.rows) → p.count + length (filter test t.rows) ≡ length t.rows → p.written ≡ length (filter test t.rows)
     → Leaves t p (filter (λ r. not (test r)) t.rows) (count_by test t.rows)
 delete_leaves t is p test e c w = leaves t p (filter (λ r. not (test r)) t.rows) (count_by test t.rows)
-    (subst (KeysRise value_cmp) (sym e) (rise_each t.schema.key (λ _. None) [] (filter test t.rows) tt))
+    (subst (PairsRise value_cmp) (sym e) (rise_each t.schema.key (λ _. None) [] (filter test t.rows) tt))
     (ap (merged value_cmp (keyed t.schema.key t.rows)) e ∙ merged_removals t.schema.key test t.rows is.rises)
     (omega (arith, c, length-filter_both test (λ r. not (test r)) (λ r. refl) t.rows))
     (w ∙ length-filter test t.rows)
@@ -179,7 +179,7 @@ pub update_leaves : (t : Table) (is : IsTable t) (p : Plan) (test : List Value �
     → p.changes ≡ puts t.schema.key (map f (filter test t.rows)) → p.count ≡ length t.rows → p.written ≡ length (filter test t.rows)
     → Leaves t p (map (λ r. cond (test r) (f r) r) t.rows) (count_by test t.rows)
 update_leaves t is p test f keeps e c w = leaves t p (map (λ r. cond (test r) (f r) r) t.rows) (count_by test t.rows)
-    (subst (KeysRise value_cmp) (sym e) (rise_each t.schema.key Some [] (map f (filter test t.rows)) tt))
+    (subst (PairsRise value_cmp) (sym e) (rise_each t.schema.key Some [] (map f (filter test t.rows)) tt))
     (ap (merged value_cmp (keyed t.schema.key t.rows)) e ∙ merged_puts t.schema.key t.rows (map f (filter test t.rows)) is.rises ∙ ap (keyed t.schema.key) (put_changed t.schema.key test f keeps t.rows is.rises))
     (c ∙ sym (length-map t.rows (λ r. cond (test r) (f r) r)))
     (w ∙ length-filter test t.rows)
@@ -188,7 +188,7 @@ pub insert_leaves : (t : Table) (is : IsTable t) (p : Plan) (new : List (List Va
     → p.changes ≡ puts t.schema.key new → p.count ≡ length t.rows + length new → p.written ≡ length new
     → Leaves t p (fold (put_by (by_key t.schema.key)) t.rows new) (length new)
 insert_leaves t is p new there twice e c w = leaves t p (fold (put_by (by_key t.schema.key)) t.rows new) (length new)
-    (subst (KeysRise value_cmp) (sym e) (rise_each t.schema.key Some [] new tt))
+    (subst (PairsRise value_cmp) (sym e) (rise_each t.schema.key Some [] new tt))
     (ap (merged value_cmp (keyed t.schema.key t.rows)) e ∙ merged_puts t.schema.key t.rows new is.rises)
     (c ∙ sym (length_put t.schema.key t.rows new there twice))
     w

@@ -30,14 +30,13 @@ pub type Planned = Result<Plan, Refusal>;
 #[derive(Drop)]
 pub enum Change {
     ByKey(Plan),
-    /// Sets one column in place, without allocation. Only for a table on which no transaction has a draft.
+    /// Sets one column in place. Only for a table on which no transaction has a draft.
     InPlace {
         edit: ColumnEdit,
         /// The number of rows that the write inserts, updates or deletes.
         written: u64,
     },
-    /// Keeps only the rows that pass, by one walk without allocation. Only for a table on which no
-    /// transaction has a draft.
+    /// Keeps only the rows that pass, by one walk. Only for a table on which no transaction has a draft.
     Removal {
         by: Unmet,
         /// The number of rows that stay.

@@ -33,10 +33,10 @@ use Rattle.cj_book.proofs.LogFollowing.{log_more}
 use Rattle.cj_replica.specs.declared.replica.Caught.TheVariants as caught
 use Rattle.cj_replica.proofs.Longer.{outcome_longer}
 use Rattle.cj_tally.specs.declared.tally.Tally.{Tally}
-use Rattle.cj_tally.specs.Tallies.{AnswersByTally, AreTargets, HaveReported, IsRightOutcome, IsTallyOf}
+use Rattle.cj_tally.specs.Tallies.{AnswersByTally, AreTargets, HasReported, HaveReported, HaveReportedBelow, IsRightOutcome, IsTallyOf}
 use Rattle.cj_locked_cell.specs.Taking.{NotesTally}
 use Rattle.cj_locked.specs.Turns.{pending_weight, turn_amount, turn_events_of}
-use Rattle.cj_locked.specs.Writing.{EndsSince, HoldsEntry, IsScheduledIn, SettlesTally}
+use Rattle.cj_locked.specs.Writing.{EndsAsReported, EndsSince, HoldsEntry, IsScheduledIn, SettlesTally}
 use Rattle.cj_locked.proofs.Following.{follows_reads}
 use Rattle.cj_locked.proofs.Turns.{free_stays, open_entry_stays, turn_events_more, turn_events_push, turn_stays, TurnStays}
 
@@ -57,8 +57,8 @@ module _ (p : Placement) (G : List Event) (n : ℕ) (e : Entry) (at : IsSchedule
   abbrev pub scheduled_on : (H : List Event) → IsPrefix G H → IsScheduledIn p H n e
   scheduled_on H longer = record { m = at.m; was_free = at.was_free; served = at.served; space = at.space; number = at.number; next = prefix_trans (at.m ++ Sched e ∷ []) G H at.next longer }
 
-pub holds_on : {S : Type 0} (tells : Bool) (count : S → ℕ) (p : Placement) (G H : List Event) (n : ℕ) (e : Entry) (amount : ℕ) (l : BookLogState S) → IsPrefix G H → HoldsEntry tells count p G n e amount l → HoldsEntry tells count p H n e amount l
-holds_on tells count p G H n e amount l longer holds = record { at = scheduled_on p G n e holds.at H longer; turn = holds.turn; follows = holds.follows }
+pub holds_on : {S : Type 0} (tells : Bool) (count : S → ℕ) (p : Placement) (G H : List Event) (n enabled : ℕ) (e : Entry) (amount : ℕ) (l : BookLogState S) → IsPrefix G H → HoldsEntry tells count p G n enabled e amount l → HoldsEntry tells count p H n enabled e amount l
+holds_on tells count p G H n enabled e amount l longer holds = record { at = scheduled_on p G n e holds.at H longer; mask = holds.mask; turn = holds.turn; follows = holds.follows }
 
 -- ---- what the turn's amount tells
 
@@ -178,7 +178,7 @@ module _ (h : List Event) (enabled : ℕ) (mask : (b : ℕ) → in_mask enabled 
 
 -- ---- the end
 
-module _ {S : Type 0} (tells : Bool) (count : S → ℕ) (p : Placement) (F h : List Event) (n : ℕ) (e : Entry) (amount : ℕ) (l : BookLogState S) (holds : HoldsEntry tells count p F n e amount l) (longer : IsPrefix F h) (item : Option Pending)
+module _ {S : Type 0} (tells : Bool) (count : S → ℕ) (p : Placement) (F h : List Event) (n mask_then : ℕ) (e : Entry) (amount : ℕ) (l : BookLogState S) (holds : HoldsEntry tells count p F n mask_then e amount l) (longer : IsPrefix F h) (item : Option Pending)
     (whole : amount ≡ turn_amount h item) where
   abbrev m : List Event
   m = holds.at.m
@@ -215,6 +215,10 @@ module _ {S : Type 0} (tells : Bool) (count : S → ℕ) (p : Placement) (F h : 
   end_enabled : (b : ℕ) → is_enabled m b ≡ is_enabled h b
   end_enabled b = sym (stays.enabled b ∙ enabled-push m (Sched e) b)
 
+  -- who is enabled now was enabled as the entry was scheduled
+  was_enabled : (b : ℕ) → is_enabled h b ≡ true → in_mask mask_then b ≡ true
+  was_enabled b on = holds.mask b ∙ (sym (stays.enabled b) ∙ on)
+
   end_served : HasServer p h (request_of e.act)
   end_served = λ needs. (let b = holds.at.served needs in (b.0, (sym (end_enabled b.0) ∙ b.1.0, b.1.1)))
 
@@ -224,6 +228,31 @@ module _ {S : Type 0} (tells : Bool) (count : S → ℕ) (p : Placement) (F h : 
 
   pub end_idle : (failed starved : ℕ) → is_free (h ++ Ended failed starved ∷ []) ≡ true
   end_idle failed starved = (let a = end_last.0 in let b = end_last.1 in free-ended h failed starved end_open (omega (arith, a, b)) (omega (arith, a, b)))
+
+  -- ---- who is noted as failed or as out of memory
+
+  module _ (enabled : ℕ) (mask : (b : ℕ) → in_mask enabled b ≡ is_enabled h b) (tally settled : Tally) (settles : SettlesTally enabled tally settled) (below : ℕ) (reported : HaveReportedBelow below mask_then tally) where
+    neither : (b : ℕ) → HasReported tally b → not (in_mask tally.taken b) ≡ true → not (in_mask tally.failed b) ≡ true → in_mask tally.starved b ≡ true
+    neither b (inl took) not_taken not_failed = absurd (cc (sym (ap not took) ∙ not_taken))
+    neither b (inr (inl failed)) not_taken not_failed = absurd (cc (sym (ap not failed) ∙ not_failed))
+    neither b (inr (inr starved)) not_taken not_failed = starved
+
+    starved_reported : (b : ℕ) → b < below → in_mask settled.starved b ≡ true → in_mask tally.starved b ≡ true
+    starved_reported b few on =
+        let all = and_parts (in_mask enabled b && not (in_mask tally.taken b)) (not (in_mask tally.failed b)) (sym (settles.starved b) ∙ on) in
+        let some = and_parts (in_mask enabled b) (not (in_mask tally.taken b)) all.0 in neither b (reported b few (was_enabled b (sym (mask b) ∙ some.0))) some.1 all.1
+
+    pub ends_as_reported : (H : List Event) → H ≡ h ++ Ended settled.failed settled.starved ∷ [] → EndsAsReported below tally H
+    ends_as_reported H is = record {
+      h = h;
+      failed = settled.failed;
+      starved = settled.starved;
+      is = is;
+      failed_only = λ b on. (failed_parts h enabled mask tally settled settles b on).1;
+      starved_only = starved_reported;
+    }
+
+  -- ---- the answer
 
   module _ (enabled : ℕ) (mask : (b : ℕ) → in_mask enabled b ≡ is_enabled h b) (tally settled : Tally) (settles : SettlesTally enabled tally settled)
       (targets : ℕ) (are : (b : ℕ) → in_mask targets b ≡ is_target_at p h (open_entry_of h) b) (reply : Reply) (replies : AnswersByTally settled targets reply) (H : List Event) (is : H ≡ h ++ Ended settled.failed settled.starved ∷ []) where

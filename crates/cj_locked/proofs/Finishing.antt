@@ -1,13 +1,14 @@
 -- What becomes of an entry that was begun, once the log was asked to append its item.
 use Rattle.std.proofs.Common.{◌≡◌, ℕ, ◌+◌, ◌*◌, ◌<◌, ◌≤◌, ◌==◌, Bool, true, cond, List, [], ◌∷◌, ◌++◌, length, Option, None, Some, Result, Ok, Err, IfSome, refl, ap, sym, ◌∙◌, subst, arith, eq-eqb}
 use mathlib.Core.List.{IsPrefix}
+use Rattle.cj_model.specs.Cluster.Masks.{in_mask}
 use Rattle.cj_model.specs.declared.request.Entry.{Entry}
 use Rattle.cj_model.specs.Cluster.Placements.{Placement}
 use Rattle.cj_model.specs.Sql.PlainRequests.{request_of}
 use Rattle.cj_cluster.specs.declared.event.Event.{Event}
 use Rattle.cj_cluster.specs.declared.event.Event.TheVariants.{Sched, LogFailed}
 use Rattle.cj_cluster.specs.History.Answering.{HasServer}
-use Rattle.cj_cluster.specs.History.Histories.{events_left, is_free, log}
+use Rattle.cj_cluster.specs.History.Histories.{events_left, is_enabled, is_free, log}
 use Rattle.cj_cluster.specs.History.Legality.{IsFitEntry, IsLegal}
 use Rattle.cj_cluster.proofs.Pushed.{free-same, prefix_self, prefix_trans}
 use Rattle.cj_board.specs.Counting.{event_count_of}
@@ -211,9 +212,10 @@ module _ {S : Type 0} (tells : Bool) (count : S → ℕ) (p : Placement) (F : Li
         is = after;
       }
 
-      pub holds_now : (now : ℕ) (k : BookLogState S) → now ≡ turn_amount (h ++ Sched e ∷ []) None → k ≡ l → a ≡ Ok tt → HoldsEntry tells count p G n e now k
-      holds_now now k counted same_log ok = record {
+      pub holds_now : (now enabled : ℕ) (k : BookLogState S) → now ≡ turn_amount (h ++ Sched e ∷ []) None → ((b : ℕ) → in_mask enabled b ≡ is_enabled G b) → k ≡ l → a ≡ Ok tt → HoldsEntry tells count p G n enabled e now k
+      holds_now now enabled k counted mask same_log ok = record {
         at = at;
+        mask = λ b. mask b ∙ ap (λ (x : List Event). is_enabled x b) after;
         turn = counted;
         follows = subst (λ (x : BookLogState S). LogFollows tells count x (h ++ Sched e ∷ [])) (sym same_log) (entry_follows ok);
       }

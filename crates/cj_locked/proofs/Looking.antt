@@ -1,6 +1,6 @@
 -- What a look at the book gives a query.
 use Rattle.std.proofs.Common.{◌≡◌, ◌≢◌, ℕ, ◌<◌, ◌≤◌, ◌^◌, ◌==◌, ◌&&◌, not, cond, max, Bool, true, false, List, [], ◌∷◌, length, Option, None, Some, option_map, IfSome, IfOk, Result, Ok, Err, refl, ap, sym, ◌∙◌, subst, arith, ⊎_elim}
-use Rattle.std.specs.Prelude.{is_some, All}
+use Rattle.std.specs.Prelude.{All}
 use mathlib.Core.List.{IsPrefix}
 use Rattle.std.proofs.lemmas.Bool.{and_parts, both_ways, cases_Bool, eq-eqb, eqb-true, not-true}
 use Rattle.std.proofs.lemmas.List.Elements.{All-head, All-tail}
@@ -12,13 +12,12 @@ use Rattle.cj_model.specs.declared.limits.TheConstants.{BACKEND_LIMIT}
 use Rattle.cj_model.specs.declared.request.Request.TheVariants as request
 use Rattle.cj_model.specs.declared.select.Select.{Select}
 use Rattle.cj_model.specs.Cluster.Balancing.{Balance}
-use Rattle.cj_model.specs.Cluster.Caching.{after_look, answer_kept, cached_entry, has_answer, is_entry_for, CacheState}
+use Rattle.cj_model.specs.Cluster.Caching.{after_look, cached_entry, has_answer, is_entry_for, CacheState}
 use Rattle.cj_model.specs.Cluster.Masks.{in_mask}
 use Rattle.cj_model.specs.Cluster.Placements.{hosts_all, Placement}
 use Rattle.cj_model.specs.Database.Outcomes.{IsAnswer}
 use Rattle.cj_model.specs.Database.Queries.{ask}
 use Rattle.cj_model.specs.Proving.SameStatements.{same_statement-Decides}
-use Rattle.cj_model.proofs.CachingLaws.{kept_looked}
 use Rattle.cj_model.proofs.Masks.{has-zero, some_bit}
 use Rattle.cj_cluster.specs.declared.event.Event.{Event}
 use Rattle.cj_cluster.specs.History.Answering.{HasNoServer, HasServer}
@@ -48,14 +47,6 @@ entry_found P s (e ∷ entries) all = ⊎_elim
 -- a kept answer and its position
 abbrev kept_pair : Cached → Answer × ℕ
 kept_pair e = (e.answer, e.at)
-
--- where an answer is kept, there is one to share
-pub none_shared : (s : Select) (c : CacheState) → has_answer s c ≡ true → None ≡ option_map kept_pair (cached_entry s c.entries) → ⊥
-none_shared s c kept is = from (cached_entry s c.entries) kept is
-  where
-    from : (o : Option Cached) → is_some o ≡ true → None ≡ option_map kept_pair o → ⊥
-    from None kept is = cc kept
-    from (Some e) kept is = cc is
 
 -- a share is right at each position that is not below its own, up to the log's end
 pub share_right : (told : Bool) (h : List Event) (legal : IsLegal h) (c : CacheState) → IsFreshCache told (log h) c → (s : Select) (owed : ℕ) → owed ≤ length (log h) → (answer : Answer) (at n : ℕ)
@@ -96,17 +87,6 @@ share_there told given inside same legal fresh s owed few answer at n is greates
 pub share_given : {X : Type 0} (parts : X → Answer × ℕ) (o : Option X) (x : X) (kept : Option (Answer × ℕ)) → option_map parts o ≡ kept → o ≡ Some x → Some (parts x) ≡ kept
 share_given parts o x kept is some = ap (option_map parts) (sym some) ∙ is
 
--- a look-up keeps what it finds
-pub has_looked : (s : Select) (c : CacheState) → has_answer s (after_look s c) ≡ has_answer s c
-has_looked s c = sym (found s (after_look s c)) ∙ (ap is_some (kept_looked s c) ∙ found s c)
-  where
-    found : (s : Select) (c : CacheState) → is_some (answer_kept s c) ≡ has_answer s c
-    found s c = one (cached_entry s c.entries)
-      where
-        one : (o : Option Cached) → is_some (option_map (λ (e : Cached). e.answer) o) ≡ is_some o
-        one None = refl
-        one (Some e) = refl
-
 -- ---- a pick
 
 -- what is left of a mask of backends
@@ -143,21 +123,6 @@ picked_state old serving tried owed Unserved new picks = absurd picks
 
 pub picked_history : (old : BookState) (serving tried owed : ℕ) (look : Look) (new : BookState) → IsPickOf old serving tried owed look new → new.history ≡ old.history
 picked_history old serving tried owed look new picks = ap (λ (x : BookState). x.history) (picked_state old serving tried owed look new picks)
-
--- ---- a look-up
-
-pub hit : (tells : Bool) (old : BookState) (select : Select) (serving tried owed : ℕ) (found : Bool) (r : Result Look NoMemory) (new : BookState) → found ≡ true → new ≡ with_look old select
-    → IfOk r (GivesKept tells (log old.history) select owed) → IsLookUpOf found tells old select serving tried owed r new
-hit tells old select serving tried owed found r new is now gives = subst (λ t. IsLookUpOf t tells old select serving tried owed r new) (sym is) (by r gives)
-  where
-    by : (x : Result Look NoMemory) → IfOk x (GivesKept tells (log old.history) select owed) → IsLookUpOf true tells old select serving tried owed x new
-    by (Ok look) g = (g, now)
-    by (Err e) g = now
-
-pub miss : (tells : Bool) (old mid : BookState) (select : Select) (serving tried owed : ℕ) (found : Bool) (look : Look) (new : BookState) → found ≡ false → mid ≡ with_look old select
-    → IsPickOf mid serving tried owed look new → IsLookUpOf found tells old select serving tried owed (Ok look) new
-miss tells old mid select serving tried owed found look new is now picks =
-    subst (λ t. IsLookUpOf t tells old select serving tried owed (Ok look) new) (sym is) (subst (λ (x : BookState). IsPickOf x serving tried owed look new) now picks)
 
 -- ---- a look
 

@@ -13,7 +13,7 @@ use Rattle.cj_model.specs.Sql.PlainRequests.{request_of}
 use Rattle.cj_cluster.specs.declared.event.Event.{Event}
 use Rattle.cj_cluster.specs.declared.event.Event.TheVariants.{Sched, Ended, LogFailed}
 use Rattle.cj_cluster.specs.History.Answering.{AnswersEntry, HasNoServer, HasServer}
-use Rattle.cj_cluster.specs.History.Histories.{ended_count, events_left, is_free, log, open_entry_of, tx_of}
+use Rattle.cj_cluster.specs.History.Histories.{ended_count, events_left, is_enabled, is_free, log, open_entry_of, tx_of}
 use Rattle.cj_cluster.specs.History.Legality.{IsFitEntry}
 use Rattle.cj_cluster.specs.History.Turns.{SessionView, Turn, entry_count_of, tx_after_entry}
 use Rattle.cj_cluster.specs.Moves.Runs.{call_of_entry}
@@ -86,9 +86,11 @@ pub record SchedulesSince (p : Placement) (F G : List Event) (n : ℕ) (e : Entr
   pub quiet : event_count_of e.session at.m ≡ event_count_of e.session F
   pub is : G ≡ at.m ++ Sched e ∷ []
 
--- who has the turn since then: its amount is that of the history with the entry, and the log follows that history
-pub record HoldsEntry {S : Type 0} (tells : Bool) (count : S → ℕ) (p : Placement) (G : List Event) (n : ℕ) (e : Entry) (amount : ℕ) (l : BookLogState S) : Type 0 where
+-- Who has the turn since then, and the mask of the backends that were enabled. The turn's amount is that of the history
+-- with the entry, and the log follows that history.
+pub record HoldsEntry {S : Type 0} (tells : Bool) (count : S → ℕ) (p : Placement) (G : List Event) (n enabled : ℕ) (e : Entry) (amount : ℕ) (l : BookLogState S) : Type 0 where
   pub at : IsScheduledIn p G n e
+  pub mask : (b : ℕ) → in_mask enabled b ≡ is_enabled (at.m ++ Sched e ∷ []) b
   pub turn : amount ≡ turn_amount (at.m ++ Sched e ∷ []) None
   pub follows : LogFollows tells count l (at.m ++ Sched e ∷ [])
 
@@ -126,6 +128,16 @@ pub record SettlesTally (enabled : ℕ) (tally settled : Tally) : Type 0 where
   pub first_outcome : settled.first_outcome ≡ tally.first_outcome
   pub failed : (b : ℕ) → in_mask settled.failed b ≡ (in_mask enabled b && in_mask tally.failed b && not (in_mask tally.taken b))
   pub starved : (b : ℕ) → in_mask settled.starved b ≡ (in_mask enabled b && not (in_mask tally.taken b) && not (in_mask tally.failed b))
+
+-- The history ends with an end of the entry. Of the backends below `count` only those are noted there as failed, or as
+-- out of memory, that reported it.
+pub record EndsAsReported (count : ℕ) (t : Tally) (H : List Event) : Type 0 where
+  pub h : List Event
+  pub failed : ℕ
+  pub starved : ℕ
+  pub is : H ≡ h ++ Ended failed starved ∷ []
+  pub failed_only : (b : ℕ) → in_mask failed b ≡ true → in_mask t.failed b ≡ true
+  pub starved_only : (b : ℕ) → b < count → in_mask starved b ≡ true → in_mask t.starved b ≡ true
 
 -- entry n, which was open at history h, has ended, and is answered so
 pub record EndsSince (tells : Bool) (p : Placement) (G : List Event) (n : ℕ) (e : Entry) (reply : Reply) (H : List Event) : Type 0 where

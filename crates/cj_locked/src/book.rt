@@ -10,12 +10,12 @@ ghost use Rattle.cj_board.specs.Counting.{event_count_of};
 ghost use Rattle.cj_board.specs.Seats.{front, pass_view};
 ghost use Rattle.cj_book.specs.BookLogs.{LogFollows};
 ghost use Rattle.cj_book.specs.Seated.{GivesOwnPassesOnly};
-ghost use Rattle.cj_tally.specs.Tallies.{IsTallyOf};
+ghost use Rattle.cj_tally.specs.Tallies.{HaveReportedBelow, IsTallyOf};
 ghost use Rattle.cj_locked.specs.Locked.{LastIsNoted};
 ghost use Rattle.cj_pass.specs.Passes.{HasNotedMore, HasSeenMore};
 ghost use Rattle.cj_locked_cell.specs.Taking.{NotesTally};
 ghost use Rattle.cj_locked.specs.Turns.{refusal_weight, turn_events_of};
-ghost use Rattle.cj_locked.specs.Writing.{BeginsSince, EndsSince, HoldsAppended, HoldsEntry, RefusesSince, SchedulesSince, SettlesTally};
+ghost use Rattle.cj_locked.specs.Writing.{BeginsSince, EndsAsReported, EndsSince, HoldsAppended, HoldsEntry, RefusesSince, SchedulesSince, SettlesTally};
 
 use crate::turn::{KeptTurn, Turn, TurnLedger, taken};
 use cj_book::{BegunEntry, Book, BookError, Prepared};
@@ -80,7 +80,7 @@ pub(crate) fn refusal_weight(error: BookError) -> u64
 }
 
 /// The mask without the backends of another.
-pub(crate) fn without(mask: u32, other: u32) -> u32
+pub fn without(mask: u32, other: u32) -> u32
     ensures { (b : ℕ) → in_mask result b ≡ (in_mask mask b && not (in_mask other b)) }
 {
     mask & !other
@@ -226,7 +226,7 @@ impl<J: Naming, S: Store + Drop> LockedBook<J, S> {
         requires own { ((pass_view pass.old.seat).own_session ≡ e.session) × (0 < e.session) }
         requires counted { event_count_of e.session (front pass.old.seat) ≡ (pass_view pass.old.seat).count }
         requires holds { HoldsAppended S.tells S.faults (placement_of J.layout) (front pass.old.seat) e prepared turn.share.amount turn.log appended }
-        ensures ok { IfOk result (λ entry. HoldsEntry S.tells S.faults (placement_of J.layout) (front pass.new.seat) entry.number e entry.turn.share.amount entry.turn.log) }
+        ensures ok { IfOk result (λ entry. HoldsEntry S.tells S.faults (placement_of J.layout) (front pass.new.seat) entry.number entry.enabled e entry.turn.share.amount entry.turn.log) }
         ensures since { IfOk result (λ entry. SchedulesSince (placement_of J.layout) (front pass.old.seat) (front pass.new.seat) entry.number e) }
         ensures enabled { IfOk result (λ entry. (b : ℕ) → in_mask entry.enabled b ≡ is_enabled (front pass.new.seat) b) }
         ensures err { IfErr result (RefusesSince (placement_of J.layout) (front pass.old.seat) (front pass.new.seat) e) }
@@ -255,7 +255,7 @@ impl<J: Naming, S: Store + Drop> LockedBook<J, S> {
         requires counted { event_count_of e.session (front pass.old.seat) ≡ (pass_view pass.old.seat).count }
         requires told { front pass.old.seat ≡ self.old.book.state.history }
         requires holds { HoldsAppended S.tells S.faults (placement_of J.layout) (front pass.old.seat) e prepared turn.share.amount turn.log appended }
-        ensures ok { IfOk result (λ entry. HoldsEntry S.tells S.faults (placement_of J.layout) (front pass.new.seat) entry.number e entry.turn.share.amount entry.turn.log) }
+        ensures ok { IfOk result (λ entry. HoldsEntry S.tells S.faults (placement_of J.layout) (front pass.new.seat) entry.number entry.enabled e entry.turn.share.amount entry.turn.log) }
         ensures since { IfOk result (λ entry. SchedulesSince (placement_of J.layout) (front pass.old.seat) (front pass.new.seat) entry.number e) }
         ensures enabled { IfOk result (λ entry. (b : ℕ) → in_mask entry.enabled b ≡ is_enabled (front pass.new.seat) b) }
         ensures err { IfErr result (RefusesSince (placement_of J.layout) (front pass.old.seat) (front pass.new.seat) e) }
@@ -290,7 +290,8 @@ impl<J: Naming, S: Store + Drop> LockedBook<J, S> {
         }
     }
 
-    /// Ends the open entry, whose writer this is, by what was tallied of it, and answers it. The turn is there again.
+    /// Ends the open entry, whose writer this is, by what was tallied of it, and answers it. Each backend that was enabled
+    /// must have reported. The turn is there again.
     pub fn end(
         &mut self,
         board: &NamedBoard<J>,
@@ -299,12 +300,14 @@ impl<J: Naming, S: Store + Drop> LockedBook<J, S> {
         e: &Entry,
         tally: Tally,
     ) -> Reply
-        requires holds { HoldsEntry S.tells S.faults (placement_of J.layout) (front pass.old.seat) entry.number e.now entry.turn.share.amount entry.turn.log }
+        requires holds { HoldsEntry S.tells S.faults (placement_of J.layout) (front pass.old.seat) entry.number entry.enabled e.now entry.turn.share.amount entry.turn.log }
         requires noted { NotesTally (pass_view pass.old.seat) entry.number tally }
+        requires reported { HaveReportedBelow (length J.layout.names) entry.enabled tally }
         ensures seen { HasSeenMore (pass_view pass.old.seat) (pass_view pass.new.seat) }
         ensures legal { IsLegal (front pass.new.seat) }
         ensures told { front pass.new.seat ≡ self.new.book.state.history }
         ensures back { is_none self.new.log ≡ false }
+        ensures masks { EndsAsReported (length J.layout.names) tally (front pass.new.seat) }
         ensures ended { (tells : Bool) → IsTallyOf tells (placement_of J.layout) (log (front pass.old.seat)) (entry.number - 1) e.now tally → EndsSince tells (placement_of J.layout) (front pass.old.seat) entry.number e.now result (front pass.new.seat) }
     {
         let OpenEntry {

@@ -22,7 +22,7 @@ mod orphan;
 mod session;
 mod turn;
 
-pub use book::{Begun, LockedBook, OpenEntry};
+pub use book::{Begun, LockedBook, OpenEntry, without};
 pub use failure::ReadFailure;
 pub use hold::HeldTurn;
 pub use listing::ShownItem;

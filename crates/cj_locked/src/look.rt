@@ -1,6 +1,6 @@
 //! How a query looks at the book: who may answer it, and what becomes of the answer.
 
-ghost use Rattle.std.specs.Prelude.{◌≡◌, ◌≢◌, ◌↔◌, ◌==◌, ◌&&◌, ◌^◌, ◌<◌, ◌≤◌, true, false, length, slice_get, option_copied, IfOk, None, Ok};
+ghost use Rattle.std.specs.Prelude.{◌≡◌, ◌≢◌, ◌↔◌, ◌==◌, ◌&&◌, ◌^◌, ◌<◌, ◌≤◌, true, false, length, slice_get, option_copied, is_some, IfSome, IfOk, OnErr, None, Ok};
 ghost use Rattle.cj_model.specs.declared.answer.Asked.TheVariants.{Rows};
 ghost use Rattle.cj_model.specs.Cluster.Balancing.{one_less};
 ghost use Rattle.cj_model.specs.Cluster.Caching.{after_keep, has_answer};
@@ -114,32 +114,29 @@ impl<J: Naming, S: Store + Drop> LockedBook<J, S> {
         ensures log { self.new.log ≡ self.old.log }
         ensures pending { self.new.book.pending ≡ self.old.book.pending }
     {
-        if self.touch(select) {
-            return self.share(select, owed);
+        match self.share(select, owed)? {
+            Some(kept) => Ok(kept),
+            None => Ok(self.pick(serving, tried, owed)),
         }
-        Ok(self.pick(serving, tried, owed))
     }
 
-    /// Returns whether the cache keeps an answer of the query, and counts a hit or a miss.
-    fn touch(&mut self, select: &Select) -> bool
-        ensures found { result ≡ has_answer select.now self.old.book.state.cache }
+    /// Looks a query up in the cache, which counts a hit or a miss. Gives the answer that is kept, at a position not
+    /// below `owed`; `None` if none is.
+    ///
+    /// `NoMemory`: an answer is kept, and could not be shared. The look-up is counted all the same.
+    fn share(&mut self, select: &Select, owed: u64) -> Result<Option<Look>, NoMemory>
+        requires owed { owed ≤ length (log self.old.book.state.history) }
+        ensures found { IfOk result (λ kept. is_some kept ≡ has_answer select.now self.old.book.state.cache) }
+        ensures err { OnErr result (has_answer select.now self.old.book.state.cache ≡ true) }
+        ensures gives { IfOk result (λ kept. IfSome kept (GivesKept J.tells (log self.old.book.state.history) select.now owed)) }
         ensures looked { self.new.book.state ≡ with_look self.old.book.state select.now }
         ensures log { self.new.log ≡ self.old.log }
         ensures pending { self.new.book.pending ≡ self.old.book.pending }
     {
-        self.book.look(select)
-    }
-
-    /// Gives the kept answer of a query, which the cache has, at a position not below `owed`.
-    fn share(&self, select: &Select, owed: u64) -> Result<Look, NoMemory>
-        requires kept { has_answer select.now self.now.book.state.cache ≡ true }
-        requires owed { owed ≤ length (log self.now.book.state.history) }
-        ensures { IfOk result (GivesKept J.tells (log self.now.book.state.history) select.now owed) }
-    {
         self.book.legal();
-        match self.book.shared(select)? {
-            Some(SharedAnswer { answer, at }) => Ok(Look::Kept(answer, owed.max(at))),
-            None => unreachable!(),
+        match self.book.look_up(select)? {
+            Some(SharedAnswer { answer, at }) => Ok(Some(Look::Kept(answer, owed.max(at)))),
+            None => Ok(None),
         }
     }
 

@@ -127,7 +127,7 @@ impl<J: Naming, S: Store + Drop> LockedBook<J, S> {
         requires orphan { books.is_orphan self.old.book.state e.tx ≡ true }
         requires aborts { IsAbortOf e.tx e }
         requires holds { HoldsAppended S.tells S.faults (placement_of J.layout) (front pass.old.seat) e prepared turn.share.amount turn.log appended }
-        ensures ok { IfOk result (λ entry. HoldsEntry S.tells S.faults (placement_of J.layout) (front pass.new.seat) entry.number e entry.turn.share.amount entry.turn.log) }
+        ensures ok { IfOk result (λ entry. HoldsEntry S.tells S.faults (placement_of J.layout) (front pass.new.seat) entry.number entry.enabled e entry.turn.share.amount entry.turn.log) }
         ensures since { IfOk result (λ entry. SchedulesAbortSince (placement_of J.layout) (front pass.old.seat) (front pass.new.seat) entry.number e) }
         ensures enabled { IfOk result (λ entry. (b : ℕ) → in_mask entry.enabled b ≡ is_enabled (front pass.new.seat) b) }
         ensures err { IfErr result (RefusesAppendedSince (front pass.old.seat) (front pass.new.seat)) }
@@ -154,7 +154,7 @@ impl<J: Naming, S: Store + Drop> LockedBook<J, S> {
         requires orphan { books.is_orphan self.old.book.state e.tx ≡ true }
         requires aborts { IsAbortOf e.tx e }
         requires holds { HoldsAppended S.tells S.faults (placement_of J.layout) self.old.book.state.history e prepared turn.share.amount turn.log appended }
-        ensures ok { IfOk result (λ entry. HoldsEntry S.tells S.faults (placement_of J.layout) self.new.book.state.history entry.number e entry.turn.share.amount entry.turn.log) }
+        ensures ok { IfOk result (λ entry. HoldsEntry S.tells S.faults (placement_of J.layout) self.new.book.state.history entry.number entry.enabled e entry.turn.share.amount entry.turn.log) }
         ensures since { IfOk result (λ entry. SchedulesAbortSince (placement_of J.layout) self.old.book.state.history self.new.book.state.history entry.number e) }
         ensures enabled { IfOk result (λ entry. (b : ℕ) → in_mask entry.enabled b ≡ is_enabled self.new.book.state.history b) }
         ensures err { IfErr result (RefusesAppendedSince self.old.book.state.history self.new.book.state.history) }

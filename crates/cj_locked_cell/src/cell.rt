@@ -12,17 +12,18 @@ ghost use Rattle.cj_cluster.specs.History.Histories.{database_after, is_enabled,
 ghost use Rattle.cj_cluster.specs.History.Legality.{IsLegal};
 ghost use Rattle.cj_board.specs.Seats.{front, pass_view};
 ghost use Rattle.cj_place.specs.Layouts.{placement_of};
-ghost use Rattle.cj_replica.specs.Cells.{GivesContents, ReadsAnswer};
+ghost use Rattle.cj_replica.specs.Cells.{GivesContents};
 ghost use Rattle.cj_locked_cell.specs.Asking.{GivesPart, NotesFault};
 ghost use Rattle.cj_locked_cell.specs.Loading.{IsLoaded, IsStandOf, LoadsOut, Stands};
 ghost use Rattle.cj_pass.specs.Passes.{HasNotedMore};
-ghost use Rattle.cj_locked_cell.specs.Answering.{IsReadAnswer};
+ghost use Rattle.cj_locked_cell.specs.Answering.{AnswersQuery, BeginsRead, IsReading};
 ghost use Rattle.cj_locked_cell.specs.Taking.{report_of, CarriesOutEntry, ReportsEntry};
 
+use crate::reading::Reading;
 use crate::stand::{SeenOut, Stand};
 use cj_backend::Backend;
 use cj_cluster::Did;
-use cj_model::{Asked, Db, Entry, Select, Text};
+use cj_model::{Db, Entry, Select, Text};
 use cj_pass::{NamedBoard, Naming, Pass};
 use cj_replica::{Caught, Cell, CellError, CellReadError};
 use std::marker::PhantomData;
@@ -61,39 +62,40 @@ impl<J: Naming, B: Backend> LockedCell<J, B> {
         }
     }
 
-    /// Has the backend carry out or skip entry `n`, under this login, and says which backend it is and what it did.
-    /// The pass has seen the entry, and has noted the rest then.
+    /// Has backend `b` carry out or skip entry `n`, under this login, if this is its cell, and says what it did. The pass
+    /// has seen the entry, and has noted the rest then.
     ///
-    /// A cell that stands elsewhere than before the entry reports that it ran out of memory.
+    /// A cell that stands elsewhere than before the entry reports that it ran out of memory. So does the cell of another
+    /// backend, in a branch that never runs.
     pub fn take(
         &mut self,
         board: &NamedBoard<J>,
         pass: &mut Pass<J>,
+        b: u8,
         n: u64,
         e: &Entry,
         login: &Text,
-    ) -> (u8, Did)
+    ) -> Did
         requires number { 0 < n }
         requires entry { slice_get (log (front pass.old.seat)) (n - 1) ≡ Some e.now }
         ensures more { HasNotedMore (pass_view pass.old.seat) (pass_view pass.new.seat) }
         ensures legal { IsLegal (front pass.new.seat) }
-        ensures backend { result.0 < BACKEND_LIMIT }
-        ensures reports { ReportsEntry B.tells (placement_of J.layout) n e.now (pass_view pass.new.seat) result.0 result.1 }
-        ensures fault { result.1 ≡ Did.Failed → NotesFault result.0 (pass_view pass.old.seat) (pass_view pass.new.seat) }
-        ensures number { result.0 ≡ self.old.cell.state.b }
-        ensures carried { self.old.cell.state.position ≡ Some (n - 1) → CarriesOutEntry self.old.cell.state n e.now login.now result.1 self.new.cell.state }
-        ensures elsewhere { self.old.cell.state.position ≢ Some (n - 1) → (result.1 ≡ Did.Starved) × (self.new.cell.state ≡ self.old.cell.state) }
+        ensures reports { ReportsEntry B.tells (placement_of J.layout) n e.now (pass_view pass.new.seat) b result }
+        ensures fault { result ≡ Did.Failed → NotesFault b (pass_view pass.old.seat) (pass_view pass.new.seat) }
+        ensures carried { self.old.cell.state.b ≡ b → self.old.cell.state.position ≡ Some (n - 1) → CarriesOutEntry self.old.cell.state n e.now login.now result self.new.cell.state }
+        ensures elsewhere { self.old.cell.state.position ≢ Some (n - 1) → (result ≡ Did.Starved) × (self.new.cell.state ≡ self.old.cell.state) }
+        ensures other { self.old.cell.state.b ≢ b → (result ≡ Did.Starved) × (self.new.cell.state ≡ self.old.cell.state) }
     {
-        let b = self.cell.number();
+        if self.cell.number() != b {
+            self.cell.report(&board.board, &mut pass.seat);
+            return Did::Starved;
+        }
         self.cell.brief(&board.board, &mut pass.seat);
         match self.cell.position() {
-            Some(position) if position == n - 1 => {
-                let did = self.take_next(board, pass, n, e, login);
-                (b, did)
-            }
+            Some(position) if position == n - 1 => self.take_next(board, pass, n, e, login),
             _ => {
                 self.cell.report(&board.board, &mut pass.seat);
-                (b, Did::Starved)
+                Did::Starved
             }
         }
     }
@@ -122,9 +124,10 @@ impl<J: Naming, B: Backend> LockedCell<J, B> {
         report_of(&caught)
     }
 
-    /// Answers a query of transaction `tx`, 0 for none, at a position not below `least`, if it is the cell of backend
-    /// `b`. The cell of another backend answers `Out`. The pass has heard of the answer then.
-    pub fn read(
+    /// Begins a query of transaction `tx`, 0 for none, at a position not below `least`, if it is the cell of backend `b`:
+    /// gives a snapshot that answers it, or its answer where the backend gives no snapshots. The cell of another backend
+    /// answers `Out`. The pass has heard of it then.
+    pub fn begin_read(
         &mut self,
         board: &NamedBoard<J>,
         pass: &mut Pass<J>,
@@ -133,12 +136,12 @@ impl<J: Naming, B: Backend> LockedCell<J, B> {
         tx: u64,
         select: &Select,
         least: u64,
-    ) -> Result<(Asked, u64), CellReadError>
+    ) -> Result<(Reading<B::Snap>, u64), CellReadError>
         requires written { IsWritten (request.Select select.now) }
         ensures more { HasNotedMore (pass_view pass.old.seat) (pass_view pass.new.seat) }
         ensures legal { IsLegal (front pass.new.seat) }
-        ensures answer { IsReadAnswer B.tells (placement_of J.layout) b tx select.now least (pass_view pass.new.seat) result }
-        ensures asked { self.old.cell.state.b ≡ b → ReadsAnswer self.old.cell.state login.now tx select.now least result self.new.cell.state }
+        ensures reading { IsReading B.Snap.shows B.tells (placement_of J.layout) b tx select.now least (pass_view pass.new.seat) result }
+        ensures begun { self.old.cell.state.b ≡ b → BeginsRead B.Snap.shows self.old.cell.state login.now tx select.now least result self.new.cell.state }
         ensures other { self.old.cell.state.b ≢ b → (result ≡ Err CellReadError.Out) × (self.new.cell.state ≡ self.old.cell.state) }
     {
         if self.cell.number() != b {
@@ -146,9 +149,43 @@ impl<J: Naming, B: Backend> LockedCell<J, B> {
             return Err(CellReadError::Out);
         }
         self.cell.legal();
+        let (snap, position) = match self.cell.snapshot(&board.board, login, least) {
+            Ok(taken) => taken,
+            Err(error) => {
+                self.cell.report(&board.board, &mut pass.seat);
+                return Err(error);
+            }
+        };
+        let Some(snap) = snap else {
+            return self.answer(board, pass, login, tx, select, least);
+        };
+        self.cell.report(&board.board, &mut pass.seat);
+        Ok((Reading::Snapshot(snap), position))
+    }
+
+    /// Has the backend answer a query of transaction `tx`, 0 for none, at a position not below `least`.
+    fn answer(
+        &mut self,
+        board: &NamedBoard<J>,
+        pass: &mut Pass<J>,
+        login: &Text,
+        tx: u64,
+        select: &Select,
+        least: u64,
+    ) -> Result<(Reading<B::Snap>, u64), CellReadError>
+        requires written { IsWritten (request.Select select.now) }
+        ensures more { HasNotedMore (pass_view pass.old.seat) (pass_view pass.new.seat) }
+        ensures legal { IsLegal (front pass.new.seat) }
+        ensures reading { IsReading B.Snap.shows B.tells (placement_of J.layout) self.old.cell.state.b tx select.now least (pass_view pass.new.seat) result }
+        ensures answers { AnswersQuery self.old.cell.state login.now tx select.now least result self.new.cell.state }
+    {
+        self.cell.legal();
         let answer = self.cell.read(&board.board, login, tx, select, least);
         self.cell.report(&board.board, &mut pass.seat);
-        answer
+        match answer {
+            Ok((answer, position)) => Ok((Reading::Answer(answer), position)),
+            Err(error) => Err(error),
+        }
     }
 
     /// Asks backend `b` for all that it holds, drafts included, if this is its cell and stands at position `n`. The

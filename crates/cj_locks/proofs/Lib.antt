@@ -1,4 +1,5 @@
 pub mod Dumping
 pub mod Reading
+pub mod Reporting
 pub mod Restoring
 pub mod Writing

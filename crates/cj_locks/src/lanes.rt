@@ -1,19 +1,21 @@
 //! The way of an entry over the lanes of the backends' workers.
 
-ghost use Rattle.std.specs.Prelude.{◌≡◌, ◌<◌, length};
+ghost use Rattle.std.specs.Prelude.{◌≡◌, ◌<◌, true, length};
 ghost use Rattle.std.specs.Arc.{arc_value};
 ghost use Rattle.cj_model.specs.declared.limits.TheConstants.{BACKEND_LIMIT};
 ghost use Rattle.cj_cluster.specs.History.Legality.{IsLegal};
+ghost use Rattle.cj_model.specs.Cluster.Masks.{in_mask};
 ghost use Rattle.cj_place.specs.Layouts.{placement_of};
 ghost use Rattle.cj_board.specs.Seats.{front, pass_view};
 ghost use Rattle.cj_pass.specs.Passes.{HasNotedMore, HasSeenMore};
+ghost use Rattle.cj_tally.specs.Tallies.{HasReported, HaveReportedBelow, KeepsReports};
 ghost use Rattle.cj_locked_cell.specs.Taking.{HasTallied};
 ghost use Rattle.cj_locked.specs.Writing.{EndsSince, HoldsEntry, IsScheduledIn};
 
 use crate::brief::is_brief;
 use crate::locks::Locks;
 use cj_backend::Backend;
-use cj_locked::OpenEntry;
+use cj_locked::{OpenEntry, without};
 use cj_model::{Entry, Reply, has_bit, with_bit};
 use cj_outside::Store;
 use cj_pass::{Naming, Pass};
@@ -35,10 +37,10 @@ impl<J: Naming, B: Backend, S: Store + Drop> Locks<J, B, S> {
             mut pass,
         } = job;
         let login = self.accounts.mapped(&entry.user, b);
-        let (backend, did) = self.cells[b as usize]
+        let did = self.cells[b as usize]
             .lock(rt)
-            .take(&self.board, &mut pass, number, &entry, login);
-        Report::new(number, entry, backend, did, pass)
+            .take(&self.board, &mut pass, b, number, &entry, login);
+        Report::new(number, entry, b, did, pass)
     }
 
     /// Does the work of the worker of backend `b`: carries out each job of its lane, and reports it. The thread sleeps
@@ -121,6 +123,8 @@ impl<J: Naming, B: Backend, S: Store + Drop> Locks<J, B, S> {
         requires tallied { HasTallied B.tells (placement_of J.layout) n e.now (pass_view pass.old.seat) tally.old }
         ensures more { HasNotedMore (pass_view pass.old.seat) (pass_view pass.new.seat) }
         ensures tallied { HasTallied B.tells (placement_of J.layout) n e.now (pass_view pass.new.seat) tally.new }
+        ensures reported { in_mask mask b ≡ true → HasReported tally.new b }
+        ensures others { KeepsReports tally.old tally.new }
     {
         if !has_bit(mask, b) {
             return;
@@ -130,7 +134,7 @@ impl<J: Naming, B: Backend, S: Store + Drop> Locks<J, B, S> {
             let report = self.carry(rt, b, job);
             lane.tell(rt, report);
         }
-        lane.hear(rt, n).count(&self.board, pass, e, tally);
+        lane.hear(rt, n).count(&self.board, pass, b, e, tally);
     }
 
     /// Waits for the reports of the backends of the mask, whose lanes have the entry, and adds them to the tally.
@@ -147,6 +151,8 @@ impl<J: Naming, B: Backend, S: Store + Drop> Locks<J, B, S> {
         requires tallied { HasTallied B.tells (placement_of J.layout) n e.now (pass_view pass.old.seat) tally.old }
         ensures more { HasNotedMore (pass_view pass.old.seat) (pass_view pass.new.seat) }
         ensures tallied { HasTallied B.tells (placement_of J.layout) n e.now (pass_view pass.new.seat) tally.new }
+        ensures reported { HaveReportedBelow (length J.layout.names) mask tally.new }
+        ensures others { KeepsReports tally.old tally.new }
     {
         for b in 0..self.placement.count() {
             self.hear_at(rt, pass, b, n, e, mask, tally);
@@ -167,6 +173,7 @@ impl<J: Naming, B: Backend, S: Store + Drop> Locks<J, B, S> {
         requires legal { IsLegal (front pass.old.seat) }
         ensures more { HasNotedMore (pass_view pass.old.seat) (pass_view pass.new.seat) }
         ensures tallied { HasTallied B.tells (placement_of J.layout) n (arc_value e.now) (pass_view pass.new.seat) result }
+        ensures reported { HaveReportedBelow (length J.layout.names) enabled result }
     {
         let others = if is_brief(&e.act) {
             0
@@ -174,7 +181,7 @@ impl<J: Naming, B: Backend, S: Store + Drop> Locks<J, B, S> {
             enabled & enabled.wrapping_sub(1)
         };
         let posted = self.post_to_each(rt, pass, n, e, others);
-        let mut tally = self.take_everywhere(rt, pass, n, e, enabled & !posted);
+        let mut tally = self.take_everywhere(rt, pass, n, e, without(enabled, posted));
         self.hear_each(rt, pass, n, e, posted, &mut tally);
         tally
     }
@@ -187,7 +194,7 @@ impl<J: Naming, B: Backend, S: Store + Drop> Locks<J, B, S> {
         entry: OpenEntry<J, S>,
         e: &Arc<Entry, Global>,
     ) -> Reply
-        requires holds { HoldsEntry S.tells S.faults (placement_of J.layout) (front pass.old.seat) entry.number (arc_value e.now) entry.turn.share.amount entry.turn.log }
+        requires holds { HoldsEntry S.tells S.faults (placement_of J.layout) (front pass.old.seat) entry.number entry.enabled (arc_value e.now) entry.turn.share.amount entry.turn.log }
         requires legal { IsLegal (front pass.old.seat) }
         ensures seen { HasSeenMore (pass_view pass.old.seat) (pass_view pass.new.seat) }
         ensures legal { IsLegal (front pass.new.seat) }

@@ -24,14 +24,15 @@ ghost use Rattle.cj_board.specs.Seats.{front, pass_view};
 ghost use Rattle.cj_locked.specs.Failures.{FailsSince};
 ghost use Rattle.cj_locked.specs.Looking.{IsLookAt, IsOwedAt};
 ghost use Rattle.cj_pass.specs.Passes.{HasNotedMore, HasSeenMore};
-ghost use Rattle.cj_locked_cell.specs.Answering.{GivesAnswerAt, IsReadAnswer};
+ghost use Rattle.cj_locked_cell.specs.Answering.{GivesAnswerAt, IsReadAnswer, IsReading};
 ghost use Rattle.cj_locked.specs.Reading.{call_of_query, EndsRead};
 ghost use Rattle.cj_locked.specs.Writing.{AreUpTo};
 ghost use Rattle.cj_locks.specs.Reading.{HaveFailedSince, IsAttempt};
 
 use crate::locks::Locks;
-use cj_backend::Backend;
+use cj_backend::{Backend, Snap};
 use cj_locked::{LockedBook, Look, ReadFailure};
+use cj_locked_cell::Reading;
 use cj_model::{
     Answer, Asked, Cached, Duplicate, HISTORY_FULL, NO_BACKEND, NO_MEMORY, NoMemory, READ_FAULT,
     Refusal, Reply, Select, Text, with_bit,
@@ -131,8 +132,42 @@ impl<J: Naming, B: Backend, S: Store + Drop> Locks<J, B, S> {
         )
     }
 
-    /// Asks backend `b`, at a position not below `owed`. The answer `Out` also stands for a backend that is not there,
-    /// which no look picks.
+    /// Begins the query at backend `b`, at a position not below `owed`. The answer `Out` also stands for a backend that is
+    /// not there, which no look picks.
+    fn begin_read<R: Wait>(
+        &self,
+        rt: &R,
+        pass: &mut Pass<J>,
+        query: &Query<'_>,
+        b: u8,
+        owed: u64,
+    ) -> Result<(Reading<B::Snap>, u64), CellReadError>
+        requires written { IsWritten (request.Select query.now.select.now) }
+        requires legal { IsLegal (front pass.old.seat) }
+        ensures reading { IsReading B.Snap.shows B.tells (placement_of J.layout) b query.now.tx query.now.select.now owed (pass_view pass.new.seat) result }
+        ensures more { HasNotedMore (pass_view pass.old.seat) (pass_view pass.new.seat) }
+        ensures legal { IsLegal (front pass.new.seat) }
+    {
+        if b >= self.placement.count() {
+            return Err(CellReadError::Out);
+        }
+        let Some(cell) = self.cells.get(b as usize) else {
+            return Err(CellReadError::Out);
+        };
+        let login = self.accounts.mapped(query.user, b);
+        cell.lock(rt).begin_read(
+            &self.board,
+            pass,
+            b,
+            login,
+            query.tx,
+            query.select,
+            owed,
+        )
+    }
+
+    /// Asks backend `b`, at a position not below `owed`. A backend that gives snapshots answers by one, after the lock of
+    /// its cell was given back.
     fn ask<R: Wait>(
         &self,
         rt: &R,
@@ -147,15 +182,14 @@ impl<J: Naming, B: Backend, S: Store + Drop> Locks<J, B, S> {
         ensures more { HasNotedMore (pass_view pass.old.seat) (pass_view pass.new.seat) }
         ensures legal { IsLegal (front pass.new.seat) }
     {
-        if b >= self.placement.count() {
-            return Err(CellReadError::Out);
+        let (reading, position) = self.begin_read(rt, pass, query, b, owed)?;
+        match reading {
+            Reading::Answer(answer) => Ok((answer, position)),
+            Reading::Snapshot(mut snap) => match snap.ask(query.tx, query.select) {
+                Ok(answer) => Ok((answer, position)),
+                Err(_) => Err(CellReadError::NoMemory),
+            },
         }
-        let Some(cell) = self.cells.get(b as usize) else {
-            return Err(CellReadError::Out);
-        };
-        let login = self.accounts.mapped(query.user, b);
-        cell.lock(rt)
-            .read(&self.board, pass, b, login, query.tx, query.select, owed)
     }
 
     /// Notes that a read that gave no answer has ended at backend `b`.

@@ -43,8 +43,7 @@ impl<J: Naming, B: Backend, S: Store + Drop> Locks<J, B, S> {
         }
     }
 
-    /// Has backend `b` take entry `n`. A cell of another backend reports that it ran out of memory, in a branch that
-    /// never runs.
+    /// Has backend `b` take entry `n`.
     fn take<R: Wait>(&self, rt: &R, pass: &mut Pass<J>, b: u8, n: u64, e: &Entry) -> Did
         requires below { b < length J.layout.names }
         requires number { 0 < n }
@@ -55,13 +54,9 @@ impl<J: Naming, B: Backend, S: Store + Drop> Locks<J, B, S> {
         ensures legal { IsLegal (front pass.new.seat) }
     {
         let login = self.accounts.mapped(&e.user, b);
-        let (number, did) = self.cells[b as usize]
+        self.cells[b as usize]
             .lock(rt)
-            .take(&self.board, pass, n, e, login);
-        if number != b {
-            return Did::Starved;
-        }
-        did
+            .take(&self.board, pass, b, n, e, login)
     }
 
     /// Has backend `b`, which has taken `n` entries, take this one, which is the next.

@@ -1,6 +1,6 @@
 //! The way of an entry: the turn, the book, the log, the book again, each cell, and the book once more.
 
-ghost use Rattle.std.specs.Prelude.{◌≡◌, ℕ, ◌<◌, ◌≤◌, length, IfErr, IfOk};
+ghost use Rattle.std.specs.Prelude.{◌≡◌, ℕ, ◌<◌, ◌≤◌, true, length, IfErr, IfOk};
 ghost use Rattle.std.specs.Arc.{arc_value};
 ghost use Rattle.cj_model.specs.declared.limits.TheConstants.{BACKEND_LIMIT};
 ghost use Rattle.cj_model.specs.Cluster.Masks.{in_mask};
@@ -12,6 +12,7 @@ ghost use Rattle.cj_board.specs.Seats.{front, pass_view};
 ghost use Rattle.cj_pass.specs.Passes.{HasNotedMore, HasSeenMore};
 ghost use Rattle.cj_locked_cell.specs.Taking.{HasTallied};
 ghost use Rattle.cj_locked.specs.Writing.{refusal_for, BeginsSince, EndsSince, HoldsAppended, HoldsEntry, IsScheduledIn, RefusesSince, SchedulesSince, WritesTurn};
+ghost use Rattle.cj_tally.specs.Tallies.{HasReported, HaveReportedBelow, KeepsReports};
 ghost use Rattle.cj_locks.specs.Writing.{least_after};
 
 use crate::locks::Locks;
@@ -75,7 +76,7 @@ impl<J: Naming, B: Backend, S: Store + Drop> Locks<J, B, S> {
         requires own { ((pass_view pass.old.seat).own_session ≡ e.session) × (0 < e.session) }
         requires counted { event_count_of e.session (front pass.old.seat) ≡ (pass_view pass.old.seat).count }
         requires holds { HoldsAppended S.tells S.faults (placement_of J.layout) (front pass.old.seat) e prepared turn.share.amount turn.log appended }
-        ensures ok { IfOk result (λ entry. HoldsEntry S.tells S.faults (placement_of J.layout) (front pass.new.seat) entry.number e entry.turn.share.amount entry.turn.log) }
+        ensures ok { IfOk result (λ entry. HoldsEntry S.tells S.faults (placement_of J.layout) (front pass.new.seat) entry.number entry.enabled e entry.turn.share.amount entry.turn.log) }
         ensures since { IfOk result (λ entry. SchedulesSince (placement_of J.layout) (front pass.old.seat) (front pass.new.seat) entry.number e) }
         ensures enabled { IfOk result (λ entry. (b : ℕ) → in_mask entry.enabled b ≡ is_enabled (front pass.new.seat) b) }
         ensures err { IfErr result (RefusesSince (placement_of J.layout) (front pass.old.seat) (front pass.new.seat) e) }
@@ -104,7 +105,7 @@ impl<J: Naming, B: Backend, S: Store + Drop> Locks<J, B, S> {
         requires own { ((pass_view pass.old.seat).own_session ≡ e.session) × (0 < e.session) }
         requires counted { event_count_of e.session (front pass.old.seat) ≡ (pass_view pass.old.seat).count }
         requires fit { IsFitEntry (log (front pass.old.seat)) e }
-        ensures ok { IfOk result (λ entry. HoldsEntry S.tells S.faults (placement_of J.layout) (front pass.new.seat) entry.number e entry.turn.share.amount entry.turn.log) }
+        ensures ok { IfOk result (λ entry. HoldsEntry S.tells S.faults (placement_of J.layout) (front pass.new.seat) entry.number entry.enabled e entry.turn.share.amount entry.turn.log) }
         ensures since { IfOk result (λ entry. SchedulesSince (placement_of J.layout) (front pass.old.seat) (front pass.new.seat) entry.number e) }
         ensures enabled { IfOk result (λ entry. (b : ℕ) → in_mask entry.enabled b ≡ is_enabled (front pass.new.seat) b) }
         ensures err { IfErr result (RefusesSince (placement_of J.layout) (front pass.old.seat) (front pass.new.seat) e) }
@@ -142,7 +143,7 @@ impl<J: Naming, B: Backend, S: Store + Drop> Locks<J, B, S> {
         enabled: u32,
         tally: &mut Tally,
     )
-        requires backend { b < length self.now.placement.names }
+        requires backend { b < length J.layout.names }
         requires few { b < BACKEND_LIMIT }
         requires scheduled { IsScheduledIn (placement_of J.layout) (front pass.old.seat) n e.now }
         requires legal { IsLegal (front pass.old.seat) }
@@ -150,16 +151,17 @@ impl<J: Naming, B: Backend, S: Store + Drop> Locks<J, B, S> {
         ensures more { HasNotedMore (pass_view pass.old.seat) (pass_view pass.new.seat) }
         ensures legal { IsLegal (front pass.new.seat) }
         ensures tallied { HasTallied B.tells (placement_of J.layout) n e.now (pass_view pass.new.seat) tally.new }
+        ensures reported { in_mask enabled b ≡ true → HasReported tally.new b }
+        ensures others { KeepsReports tally.old tally.new }
     {
         if !has_bit(enabled, b) {
             return;
         }
-        let Some(cell) = self.cells.get(b as usize) else {
-            return;
-        };
         let login = self.accounts.mapped(&e.user, b);
-        let (number, did) = cell.lock(rt).take(&self.board, pass, n, e, login);
-        tally.took(number, did);
+        let did = self.cells[b as usize]
+            .lock(rt)
+            .take(&self.board, pass, b, n, e, login);
+        tally.took(b, did);
     }
 
     /// Has each backend of the mask take the entry, one after another.
@@ -176,6 +178,7 @@ impl<J: Naming, B: Backend, S: Store + Drop> Locks<J, B, S> {
         ensures more { HasNotedMore (pass_view pass.old.seat) (pass_view pass.new.seat) }
         ensures legal { IsLegal (front pass.new.seat) }
         ensures tallied { HasTallied B.tells (placement_of J.layout) n e.now (pass_view pass.new.seat) result }
+        ensures reported { HaveReportedBelow (length J.layout.names) enabled result }
     {
         let mut tally = Tally::new();
         for b in 0..self.placement.count() {
@@ -184,7 +187,7 @@ impl<J: Naming, B: Backend, S: Store + Drop> Locks<J, B, S> {
         tally
     }
 
-    /// Ends the entry, gives the turn back, and wakes those who wait for it.
+    /// Ends the entry, of which each enabled backend has reported, gives the turn back, and wakes those who wait for it.
     pub(crate) fn end<R: Wait>(
         &self,
         rt: &R,
@@ -193,8 +196,9 @@ impl<J: Naming, B: Backend, S: Store + Drop> Locks<J, B, S> {
         e: &Entry,
         tally: Tally,
     ) -> Reply
-        requires holds { HoldsEntry S.tells S.faults (placement_of J.layout) (front pass.old.seat) entry.number e.now entry.turn.share.amount entry.turn.log }
+        requires holds { HoldsEntry S.tells S.faults (placement_of J.layout) (front pass.old.seat) entry.number entry.enabled e.now entry.turn.share.amount entry.turn.log }
         requires tallied { HasTallied B.tells (placement_of J.layout) entry.number e.now (pass_view pass.old.seat) tally }
+        requires reported { HaveReportedBelow (length J.layout.names) entry.enabled tally }
         ensures seen { HasSeenMore (pass_view pass.old.seat) (pass_view pass.new.seat) }
         ensures legal { IsLegal (front pass.new.seat) }
         ensures ended { EndsSince B.tells (placement_of J.layout) (front pass.old.seat) entry.number e.now result (front pass.new.seat) }
@@ -213,7 +217,7 @@ impl<J: Naming, B: Backend, S: Store + Drop> Locks<J, B, S> {
         entry: OpenEntry<J, S>,
         e: &Entry,
     ) -> Reply
-        requires holds { HoldsEntry S.tells S.faults (placement_of J.layout) (front pass.old.seat) entry.number e.now entry.turn.share.amount entry.turn.log }
+        requires holds { HoldsEntry S.tells S.faults (placement_of J.layout) (front pass.old.seat) entry.number entry.enabled e.now entry.turn.share.amount entry.turn.log }
         requires legal { IsLegal (front pass.old.seat) }
         ensures seen { HasSeenMore (pass_view pass.old.seat) (pass_view pass.new.seat) }
         ensures legal { IsLegal (front pass.new.seat) }

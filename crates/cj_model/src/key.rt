@@ -3,7 +3,7 @@
 ghost use Rattle.std.specs.Prelude.{◌≡◌, ◌++◌, fold};
 ghost use Rattle.std.specs.Cmp.{partial_equiv_from_equiv};
 ghost use Rattle.cj_model.specs.Proving.ConditionNodes.{condition_of_node};
-ghost use Rattle.cj_model.specs.Proving.SameStatements.{fed_condition, fed_term, fed_value, fed_where};
+ghost use Rattle.cj_model.specs.Proving.SameStatements.{fed_condition, fed_limit, fed_term, fed_value, fed_where};
 
 use crate::condition::{Cond, CondNode};
 use crate::name::Name;
@@ -27,7 +27,7 @@ fn feed_term<H: Hasher>(term: &Term, state: &mut H)
 {
     match term {
         Term::Lit(value) => feed_value(value, state),
-        Term::Col(_) => {}
+        Term::Col(column) => column.column.hash(state),
         Term::Now => {}
         Term::Rand(_) => {}
     }
@@ -40,7 +40,7 @@ fn feed_terms<H: Hasher>(left: &Term, right: &Term, state: &mut H)
     feed_term(right, state);
 }
 
-/// Feeds the literals of a condition to a hash.
+/// Feeds the columns and literals of a condition to a hash.
 fn feed_node<H: Hasher>(node: &CondNode, state: &mut H)
     ensures { state.new ≡ fold H.write state.old (fed_condition (condition_of_node node.now)) }
 {
@@ -64,6 +64,15 @@ fn feed_where<H: Hasher>(cond: &Option<Cond>, state: &mut H)
     match cond {
         None => {}
         Some(cond) => feed_node(cond.root(), state),
+    }
+}
+
+fn feed_limit<H: Hasher>(limit: Option<u64>, state: &mut H)
+    ensures { state.new ≡ fold H.write state.old (fed_limit limit) }
+{
+    match limit {
+        None => {}
+        Some(rows) => rows.hash(state),
     }
 }
 
@@ -126,5 +135,6 @@ impl Hash for Select {
     fn hash<H: Hasher>(&self, state: &mut H) {
         self.tables.as_slice().hash(state);
         feed_where(&self.cond, state);
+        feed_limit(self.limit, state);
     }
 }

@@ -71,7 +71,7 @@ fn a_share_outlives_its_entry(rt: HostRuntime) -> Result<(), Fail> {
     };
     keep(&rt, alloc, &mut cache, "a")?;
     let asked = of_table(&rt, alloc, "a")?;
-    let Ok(Some(shared)) = cache.shared(&asked) else {
+    let Ok(Some(shared)) = cache.look_up(&asked) else {
         panic!(&rt; "share")
     };
     let mut set = TableSet::new(alloc);
@@ -79,6 +79,7 @@ fn a_share_outlives_its_entry(rt: HostRuntime) -> Result<(), Fail> {
     cache.drop_needing(&set);
     assert!(rt; cache.kept(&asked).is_none());
     assert!(rt; is_share_of(&shared, 5));
-    assert_eq!(rt; cache.counts(), (0, 0));
+    assert!(rt; matches!(cache.look_up(&asked), Ok(None)));
+    assert_eq!(rt; cache.counts(), (1, 1));
     Ok(())
 }

@@ -6,10 +6,11 @@ pub use Rattle.cj_model.specs.declared.database.Slot.{Slot}
 pub use Rattle.cj_model.specs.declared.database.Table.{Table}
 pub use Rattle.cj_model.specs.declared.schema.Schema.{Schema}
 pub use Rattle.cj_model.specs.declared.value.Value.{Value}
-pub use Rattle.cj_rowstore.specs.Entries.{KeysAbove, KeysRise, at}
-pub use Rattle.cj_rowstore.specs.Layers.{changed, given, kept, merged, onto, option_as_list}
+pub use Rattle.cj_ptree.specs.Pairs.{AreAbove, PairsRise, with_change}
+pub use Rattle.cj_rowstore.specs.Entries.{at}
+pub use Rattle.cj_rowstore.specs.Layers.{given, kept, merged, onto}
 pub use Rattle.cj_rowstore.specs.Lookups.{row_with_key, rows_from}
-pub use Rattle.cj_rowstore.specs.RowEntries.{Extends, HasKeysOf, KnowsKeys, RowEntries, from_key, keyed, knows, overlaid, turn}
+pub use Rattle.cj_rowstore.specs.RowEntries.{KeyedRows, RowEntries, from_key, keyed, knows}
 pub use Rattle.cj_rowstore.specs.Stored.{IsChangeOf, changed_slot, rows_after}
 pub use Rattle.std.proofs.lemmas.Bool.{cases_Bool, cond-false, cond-true, ne_eqb}
 pub use Rattle.std.proofs.lemmas.Cmp.{tied_itself}
@@ -18,7 +19,6 @@ pub use Rattle.cj_model.proofs.Common.{All-cons, All-head, All-nil, All-tail, Is
 pub use Rattle.std.specs.BTreeMap.{insert_entry, is_at}
 pub use Rattle.std.specs.Borrow.{Bor}
 pub use Rattle.std.specs.Map.{remove_entry, values_of}
-pub use Rattle.std.specs.Map.Iter.{deref_pair}
 pub use Rattle.std.specs.Ordering.{match_ordering, ordering_reverse}
 pub use Rattle.std.specs.Prelude.{All, filter, fold, is_some, option_copied, reverse, unwrap_or}
 pub use Rattle.std.specs.declared.option.Option.{Option}

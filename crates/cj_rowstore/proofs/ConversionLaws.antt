@@ -1,13 +1,14 @@
 -- Tables of the vocabulary as trees: rows put into an empty table, and changes that turn rows into new ones.
 use Rattle.std.proofs.Common.{◌≡◌, ℕ, true, false, cond, List, [], ◌∷◌, ◌++◌, refl, ap, sym, ◌∙◌, subst, ⊎_elim, Less, is_eq, arith}
-use Rattle.cj_rowstore.proofs.Common.{All-head, at, cases_Bool, changed_slot, cond-false, cond-true, fold, insert_entry, is_at, is_some, KeysRise, merged, ne_eqb, None, Option, ordering_reverse, remove_entry, rows_after, Schema, Slot, Some, tied_itself, unwrap_or, Value, value_cmp, value_exact, value_total, values_of}
+use Rattle.cj_rowstore.proofs.Common.{All-head, at, cases_Bool, changed_slot, cond-false, cond-true, fold, insert_entry, is_at, is_some, PairsRise, merged, ne_eqb, None, Option, ordering_reverse, remove_entry, rows_after, Schema, Slot, Some, tied_itself, unwrap_or, Value, value_cmp, value_exact, value_total, values_of}
 use Rattle.cj_model.specs.declared.database.Draft.{Draft}
 use Rattle.cj_model.specs.Database.Tables.{IsSlot, Rises, by_key, cell, put_by}
 use Rattle.cj_model.specs.Database.Steps.{seen}
 use Rattle.cj_model.proofs.RisingLaws.{equal_from}
 use Rattle.cj_rowstore.specs.RowEntries.{RowEntries, SettlesRow, TurnsInto, keyed, knows, puts}
 use Rattle.cj_rowstore.proofs.EntryLaws.{at_insert, at_kept, at_merged, at_remove, rise_merged, same_entries}
-use Rattle.cj_rowstore.proofs.RowEntryLaws.{all_back}
+use Rattle.std.specs.Prelude.{All}
+use Rattle.std.proofs.lemmas.List.Elements.{All-tail}
 use Rattle.cj_rowstore.proofs.RowLaws.{fold_past, merged_puts, rise_each, rise_keyed, values_keyed}
 
 -- ---- rows put into an empty table
@@ -19,19 +20,23 @@ each_put k (r ∷ rows) h = fold_past k r [] rows h.0 ∙ ap (λ (l : List (List
 pub filled : (k : ℕ) (rows : List (List Value)) → Rises (by_key k) rows → merged value_cmp (keyed k []) (puts k rows) ≡ keyed k rows
 filled k rows h = merged_puts k [] rows tt ∙ ap (keyed k) (each_put k rows h)
 
-pub puts_rise : (k : ℕ) (rows : List (List Value)) → KeysRise value_cmp (puts k rows)
+pub puts_rise : (k : ℕ) (rows : List (List Value)) → PairsRise value_cmp (puts k rows)
 puts_rise k rows = rise_each k Some [] rows tt
 
 -- ---- the change at one key
 
-module _ (es : RowEntries) (key : Value) (row : List Value) (u : KeysRise value_cmp es) where
+none_from : {X : Type 0} (o : Option X) → is_some o ≡ false → o ≡ None
+none_from None h = refl
+none_from (Some x) h = cc h
+
+module _ (es : RowEntries) (key : Value) (row : List Value) (u : PairsRise value_cmp es) where
   itself : is_at (value_cmp key) key ≡ true
   itself = ap is_eq (tied_itself value_total key)
 
   -- a row that goes
-  pub settles_gone : at value_cmp key es ≡ None → SettlesRow key row es (insert_entry value_cmp es key None)
+  pub settles_gone : knows es key ≡ false → SettlesRow key row es (insert_entry value_cmp es key None)
   settles_gone none = record {
-    own = ap (λ o. unwrap_or o (Some row)) (at_insert value_cmp value_total value_exact key es key None ∙ cond-true _ _ _ itself) ∙ sym (ap (λ o. unwrap_or o None) none);
+    own = ap (λ o. unwrap_or o (Some row)) (at_insert value_cmp value_total value_exact key es key None ∙ cond-true _ _ _ itself) ∙ sym (ap (λ o. unwrap_or o None) (none_from (at value_cmp key es) none));
     others = λ other n. at_insert value_cmp value_total value_exact other es key None ∙ cond-false _ _ _ n;
   }
 
@@ -51,6 +56,10 @@ module _ (es : RowEntries) (key : Value) (row : List Value) (u : KeysRise value_
   settles_changed h = record { own = change_shows (at value_cmp key es) h; others = λ other n. refl }
 
 -- ---- one row after another
+
+all_back : {A : Type 0} (P : A → Type 0) (xs ys : List A) → All P (xs ++ ys) → All P ys
+all_back P [] ys a = a
+all_back P (x ∷ xs) ys a = all_back P xs ys (All-tail P x (xs ++ ys) a)
 
 -- over the rows so far the changes show what the first ones show over nothing
 pub record Turned (k : ℕ) (rows : List (List Value)) (first now : RowEntries) : Type 0 where
@@ -94,7 +103,7 @@ module _ (k : ℕ) (r : List Value) where
     }
 
 -- all rows
-pub turned_all : (k : ℕ) (old new : List (List Value)) (changes : RowEntries) → Rises (by_key k) old → Rises (by_key k) new → KeysRise value_cmp changes → Turned k old (puts k new) changes → TurnsInto k old new changes
+pub turned_all : (k : ℕ) (old new : List (List Value)) (changes : RowEntries) → Rises (by_key k) old → Rises (by_key k) new → PairsRise value_cmp changes → Turned k old (puts k new) changes → TurnsInto k old new changes
 turned_all k old new changes o n u t = record {
   rises = u;
   rows = same_entries value_cmp value_total value_exact _ _ (rise_merged value_cmp value_total value_exact (keyed k old) changes (rise_keyed k old o) u) (rise_keyed k new n)

@@ -1,10 +1,13 @@
 -- Entries in rising key: look-ups tell them apart; what merging, inserting and removing leave at a key.
-use Rattle.std.proofs.Common.{◌≡◌, Bool, true, false, cond, List, [], ◌∷◌, refl, ap, sym, ◌∙◌, subst, ⊎_elim, Ordering, Less, Equal, Greater, is_eq}
+use Rattle.std.proofs.Common.{arith, ◌≡◌, Bool, true, false, cond, List, [], ◌∷◌, length, refl, ap, sym, ◌∙◌, subst, ⊎_elim, Ordering, Less, Equal, Greater, is_eq}
 use Rattle.std.specs.List.{AllByRecursion}
 use Rattle.std.specs.List.Sorted.{IsStrictlySortedBy}
 use Rattle.std.specs.Map.{lookup, remove_entry, keys_of}
+use Rattle.std.proofs.lemmas.List.{nil_from_length}
 use Rattle.std.proofs.lemmas.Map.Keys.{sorted_head, sorted_tail}
-use Rattle.cj_rowstore.proofs.Common.{All, All-cons, All-head, All-tail, cases_Bool, changed, cond-false, cond-true, given, insert_entry, is_at, is_some, IsTotalOrder, kept, match_ordering, merged, None, onto, Option, Some, tied_itself, unwrap_or}
+use Rattle.cj_rowstore.proofs.Common.{cases_Bool, cond-false, cond-true, given, insert_entry, is_at, IsTotalOrder, kept, match_ordering, merged, None, onto, Option, Some, tied_itself, unwrap_or}
+use Rattle.cj_ptree.specs.Pairs as pair
+use Rattle.cj_ptree.specs.Pairs.{with_change}
 use Rattle.cj_rowstore.specs.Entries as entries
 
 pub by_order : {G : Type 0} (o : Ordering) → (o ≡ Less → G) → (o ≡ Equal → G) → (o ≡ Greater → G) → G
@@ -22,24 +25,28 @@ abbrev pub pick : {X : Type 0} → Option (Option X) → Option X → Option X
 pick w o = unwrap_or w o
 
 module _ {K : Type 0} (R : K → K → Ordering) where
-  abbrev KeysAbove : {X : Type 0} → K → List (K × X) → Type 0
-  KeysAbove k es = entries.KeysAbove R k es
+  abbrev AreAbove : {X : Type 0} → K → List (K × X) → Type 0
+  AreAbove k es = pair.AreAbove R k es
 
-  abbrev KeysRise : {X : Type 0} → List (K × X) → Type 0
-  KeysRise es = entries.KeysRise R es
+  abbrev PairsRise : {X : Type 0} → List (K × X) → Type 0
+  PairsRise es = pair.PairsRise R es
 
   abbrev at : {X : Type 0} → K → List (K × X) → Option X
   at q es = entries.at R q es
 
+  pub merged_none : {X : Type 0} (es : List (K × X)) → merged R es [] ≡ es
+  merged_none [] = refl
+  merged_none (e ∷ es) = ap (λ (l : List (K × _)). e ∷ l) (merged_none es)
+
   module _ (o : IsTotalOrder R) (exact : (x y : K) → R x y ≡ Equal → x ≡ y) where
-    above_less : {X : Type 0} (q k : K) (es : List (K × X)) → R q k ≡ Less → KeysAbove k es → KeysAbove q es
+    above_less : {X : Type 0} (q k : K) (es : List (K × X)) → R q k ≡ Less → AreAbove k es → AreAbove q es
     above_less q k [] h a = tt
     above_less q k (e ∷ es) h a = (o.trans q k e.0 h a.0, above_less q k es h a.1)
 
-    above_tied : {X : Type 0} (q k : K) (es : List (K × X)) → R q k ≡ Equal → KeysAbove k es → KeysAbove q es
-    above_tied q k es h a = subst (λ (x : K). KeysAbove x es) (sym (exact q k h)) a
+    above_tied : {X : Type 0} (q k : K) (es : List (K × X)) → R q k ≡ Equal → AreAbove k es → AreAbove q es
+    above_tied q k es h a = subst (λ (x : K). AreAbove x es) (sym (exact q k h)) a
 
-    pub none_at : {X : Type 0} (q : K) (es : List (K × X)) → KeysAbove q es → at q es ≡ None
+    pub none_at : {X : Type 0} (q : K) (es : List (K × X)) → AreAbove q es → at q es ≡ None
     none_at q [] a = refl
     none_at q (e ∷ es) a = cond-false _ _ _ (ap is_eq a.0) ∙ none_at q es a.1
 
@@ -56,7 +63,7 @@ module _ {K : Type 0} (R : K → K → Ordering) where
     some_inj x y e = ap (λ (s : Option _). elim s [ None ↦ x | Some z ↦ z ]) e
 
     -- equal look-ups, equal entries
-    pub same_entries : {X : Type 0} (es fs : List (K × X)) → KeysRise es → KeysRise fs → ((q : K) → at q es ≡ at q fs) → es ≡ fs
+    pub same_entries : {X : Type 0} (es fs : List (K × X)) → PairsRise es → PairsRise fs → ((q : K) → at q es ≡ at q fs) → es ≡ fs
     same_entries [] [] p q h = refl
     same_entries [] (f ∷ fs) p q h = cc (h f.0 ∙ on_self f fs)
     same_entries (e ∷ es) [] p q h = cc (sym (h e.0) ∙ on_self e es)
@@ -83,16 +90,16 @@ module _ {K : Type 0} (R : K → K → Ordering) where
     given_past q k None es f = refl
     given_past q k (Some v) es f = past q (k, v) es f
 
-    pub at_kept : {X : Type 0} (q : K) (cs : List (K × Option X)) → KeysRise cs → at q (kept cs) ≡ pick (at q cs) None
+    pub at_kept : {X : Type 0} (q : K) (cs : List (K × Option X)) → PairsRise cs → at q (kept cs) ≡ pick (at q cs) None
     at_kept q [] u = refl
     at_kept q (c ∷ cs) u = ⊎_elim
         (λ (t : is_at (R q) c.0 ≡ true). given_here q c.0 c.1 (kept cs) t (at_kept q cs u.1 ∙ ap (λ z. pick z None) (none_at q cs (above_tied q c.0 cs (eq_true _ t) u.0))) ∙ sym (ap (λ z. pick z None) (here q c cs t)))
         (λ (f : is_at (R q) c.0 ≡ false). given_past q c.0 c.1 (kept cs) f ∙ at_kept q cs u.1 ∙ sym (ap (λ z. pick z None) (past q c cs f)))
         (cases_Bool (is_at (R q) c.0))
 
-    module _ {X : Type 0} (q : K) (b : K × X) (bs : List (K × X)) (low : KeysAbove b.0 bs) (rest : List (K × Option X) → List (K × X))
-        (rests : (cs : List (K × Option X)) → KeysRise cs → at q (rest cs) ≡ pick (at q cs) (at q bs)) where
-      at_onto : (cs : List (K × Option X)) → KeysRise cs → at q (onto R rest b cs) ≡ pick (at q cs) (at q (b ∷ bs))
+    module _ {X : Type 0} (q : K) (b : K × X) (bs : List (K × X)) (low : AreAbove b.0 bs) (rest : List (K × Option X) → List (K × X))
+        (rests : (cs : List (K × Option X)) → PairsRise cs → at q (rest cs) ≡ pick (at q cs) (at q bs)) where
+      at_onto : (cs : List (K × Option X)) → PairsRise cs → at q (onto R rest b cs) ≡ pick (at q cs) (at q (b ∷ bs))
       at_onto [] u = ap (λ z. cond (is_at (R q) b.0) (Some b.1) z) (rests [] tt)
       at_onto (c ∷ cs) u = by_order (R b.0 c.0)
           (λ l. subst (λ (z : Ordering). at q (match_ordering z (b ∷ rest (c ∷ cs)) (given c.0 c.1 (rest cs)) (given c.0 c.1 (onto R rest b cs))) ≡ pick (at q (c ∷ cs)) (at q (b ∷ bs))) (sym l)
@@ -117,52 +124,52 @@ module _ {K : Type 0} (R : K → K → Ordering) where
           (cases_Bool (is_at (R q) c.0))))
 
     -- what a look-up in the merged entries gives
-    pub at_merged : {X : Type 0} (q : K) (es : List (K × X)) (cs : List (K × Option X)) → KeysRise es → KeysRise cs → at q (merged R es cs) ≡ pick (at q cs) (at q es)
+    pub at_merged : {X : Type 0} (q : K) (es : List (K × X)) (cs : List (K × Option X)) → PairsRise es → PairsRise cs → at q (merged R es cs) ≡ pick (at q cs) (at q es)
     at_merged q [] cs u v = at_kept q cs v
     at_merged q (b ∷ bs) cs u v = at_onto q b bs u.0 (λ ds. merged R bs ds) (λ ds w. at_merged q bs ds u.1 w) cs v
 
     -- ---- the keys rise
-    above_given : {X : Type 0} (a k : K) (w : Option X) (es : List (K × X)) → R a k ≡ Less → KeysAbove a es → KeysAbove a (given k w es)
+    above_given : {X : Type 0} (a k : K) (w : Option X) (es : List (K × X)) → R a k ≡ Less → AreAbove a es → AreAbove a (given k w es)
     above_given a k None es l h = h
     above_given a k (Some v) es l h = (l, h)
 
-    rise_given : {X : Type 0} (k : K) (w : Option X) (es : List (K × X)) → KeysAbove k es → KeysRise es → KeysRise (given k w es)
+    rise_given : {X : Type 0} (k : K) (w : Option X) (es : List (K × X)) → AreAbove k es → PairsRise es → PairsRise (given k w es)
     rise_given k None es h u = u
     rise_given k (Some v) es h u = (h, u)
 
-    above_kept : {X : Type 0} (a : K) (cs : List (K × Option X)) → KeysAbove a cs → KeysAbove a (kept cs)
+    above_kept : {X : Type 0} (a : K) (cs : List (K × Option X)) → AreAbove a cs → AreAbove a (kept cs)
     above_kept a [] h = tt
     above_kept a (c ∷ cs) h = above_given a c.0 c.1 (kept cs) h.0 (above_kept a cs h.1)
 
-    pub rise_kept : {X : Type 0} (cs : List (K × Option X)) → KeysRise cs → KeysRise (kept cs)
+    pub rise_kept : {X : Type 0} (cs : List (K × Option X)) → PairsRise cs → PairsRise (kept cs)
     rise_kept [] u = tt
     rise_kept (c ∷ cs) u = rise_given c.0 c.1 (kept cs) (above_kept c.0 cs u.0) (rise_kept cs u.1)
 
     module _ {X : Type 0} (b : K × X) (rest : List (K × Option X) → List (K × X)) where
-      above_onto : (a : K) → R a b.0 ≡ Less → ((cs : List (K × Option X)) → KeysAbove a cs → KeysAbove a (rest cs)) → (cs : List (K × Option X)) → KeysAbove a cs → KeysAbove a (onto R rest b cs)
+      above_onto : (a : K) → R a b.0 ≡ Less → ((cs : List (K × Option X)) → AreAbove a cs → AreAbove a (rest cs)) → (cs : List (K × Option X)) → AreAbove a cs → AreAbove a (onto R rest b cs)
       above_onto a l r [] h = (l, r [] tt)
-      above_onto a l r (c ∷ cs) h = elim (R b.0 c.0) as (λ z. KeysAbove a (match_ordering z (b ∷ rest (c ∷ cs)) (given c.0 c.1 (rest cs)) (given c.0 c.1 (onto R rest b cs)))) [
+      above_onto a l r (c ∷ cs) h = elim (R b.0 c.0) as (λ z. AreAbove a (match_ordering z (b ∷ rest (c ∷ cs)) (given c.0 c.1 (rest cs)) (given c.0 c.1 (onto R rest b cs)))) [
         | Less ↦ (l, r (c ∷ cs) h)
         | Equal ↦ above_given a c.0 c.1 (rest cs) h.0 (r cs h.1)
         | Greater ↦ above_given a c.0 c.1 (onto R rest b cs) h.0 (above_onto a l r cs h.1)
       ]
 
-      rise_onto : (bs : List (K × X)) → KeysAbove b.0 bs → ((a : K) → KeysAbove a bs → (cs : List (K × Option X)) → KeysAbove a cs → KeysAbove a (rest cs)) → ((cs : List (K × Option X)) → KeysRise cs → KeysRise (rest cs)) → (cs : List (K × Option X)) → KeysRise cs → KeysRise (onto R rest b cs)
+      rise_onto : (bs : List (K × X)) → AreAbove b.0 bs → ((a : K) → AreAbove a bs → (cs : List (K × Option X)) → AreAbove a cs → AreAbove a (rest cs)) → ((cs : List (K × Option X)) → PairsRise cs → PairsRise (rest cs)) → (cs : List (K × Option X)) → PairsRise cs → PairsRise (onto R rest b cs)
       rise_onto bs low r ups [] u = (r b.0 low [] tt, ups [] tt)
       rise_onto bs low r ups (c ∷ cs) u = by_order (R b.0 c.0)
-          (λ l. subst (λ (z : Ordering). KeysRise (match_ordering z (b ∷ rest (c ∷ cs)) (given c.0 c.1 (rest cs)) (given c.0 c.1 (onto R rest b cs)))) (sym l)
+          (λ l. subst (λ (z : Ordering). PairsRise (match_ordering z (b ∷ rest (c ∷ cs)) (given c.0 c.1 (rest cs)) (given c.0 c.1 (onto R rest b cs)))) (sym l)
           (r b.0 low (c ∷ cs) (l, above_less b.0 c.0 cs l u.0), ups (c ∷ cs) u))
-          (λ e. subst (λ (z : Ordering). KeysRise (match_ordering z (b ∷ rest (c ∷ cs)) (given c.0 c.1 (rest cs)) (given c.0 c.1 (onto R rest b cs)))) (sym e)
-          (rise_given c.0 c.1 (rest cs) (r c.0 (subst (λ (x : K). KeysAbove x bs) (exact _ _ e) low) cs u.0) (ups cs u.1)))
-          (λ g. subst (λ (z : Ordering). KeysRise (match_ordering z (b ∷ rest (c ∷ cs)) (given c.0 c.1 (rest cs)) (given c.0 c.1 (onto R rest b cs)))) (sym g)
+          (λ e. subst (λ (z : Ordering). PairsRise (match_ordering z (b ∷ rest (c ∷ cs)) (given c.0 c.1 (rest cs)) (given c.0 c.1 (onto R rest b cs)))) (sym e)
+          (rise_given c.0 c.1 (rest cs) (r c.0 (subst (λ (x : K). AreAbove x bs) (exact _ _ e) low) cs u.0) (ups cs u.1)))
+          (λ g. subst (λ (z : Ordering). PairsRise (match_ordering z (b ∷ rest (c ∷ cs)) (given c.0 c.1 (rest cs)) (given c.0 c.1 (onto R rest b cs)))) (sym g)
           (let l : R c.0 b.0 ≡ Less = o.antisymm c.0 b.0 ∙ ap Rattle.std.specs.Ordering.ordering_reverse g in
           rise_given c.0 c.1 (onto R rest b cs) (above_onto c.0 l (r c.0 (above_less c.0 b.0 bs l low)) cs u.0) (rise_onto bs low r ups cs u.1)))
 
-    above_merged : {X : Type 0} (a : K) (es : List (K × X)) → KeysAbove a es → (cs : List (K × Option X)) → KeysAbove a cs → KeysAbove a (merged R es cs)
+    above_merged : {X : Type 0} (a : K) (es : List (K × X)) → AreAbove a es → (cs : List (K × Option X)) → AreAbove a cs → AreAbove a (merged R es cs)
     above_merged a [] h cs g = above_kept a cs g
     above_merged a (b ∷ bs) h cs g = above_onto b (λ ds. merged R bs ds) a h.0 (above_merged a bs h.1) cs g
 
-    pub rise_merged : {X : Type 0} (es : List (K × X)) (cs : List (K × Option X)) → KeysRise es → KeysRise cs → KeysRise (merged R es cs)
+    pub rise_merged : {X : Type 0} (es : List (K × X)) (cs : List (K × Option X)) → PairsRise es → PairsRise cs → PairsRise (merged R es cs)
     rise_merged [] cs u v = rise_kept cs v
     rise_merged (b ∷ bs) cs u v = rise_onto b (λ ds. merged R bs ds) bs u.0 (λ a h. above_merged a bs h) (λ ds w. rise_merged bs ds u.1 w) cs v
 
@@ -195,23 +202,23 @@ module _ {K : Type 0} (R : K → K → Ordering) where
         ∙ ap (λ z. cond (is_at (R q) e.0) (Some e.1) z) (at_insert q es k v)
         ∙ swap_tests (is_at (R q) e.0) (is_at (R q) k) (Some e.1) (Some v) (at q es) (tests_apart q k e.0 (λ t. cc (t, g))))
 
-    above_insert : {X : Type 0} (a : K) (es : List (K × X)) (k : K) (v : X) → R a k ≡ Less → KeysAbove a es → KeysAbove a (insert_entry R es k v)
+    above_insert : {X : Type 0} (a : K) (es : List (K × X)) (k : K) (v : X) → R a k ≡ Less → AreAbove a es → AreAbove a (insert_entry R es k v)
     above_insert a [] k v l h = (l, tt)
-    above_insert a (e ∷ es) k v l h = elim (R k e.0) as (λ z. KeysAbove a (match_ordering z ((k, v) ∷ e ∷ es) ((e.0, v) ∷ es) (e ∷ insert_entry R es k v))) [
+    above_insert a (e ∷ es) k v l h = elim (R k e.0) as (λ z. AreAbove a (match_ordering z ((k, v) ∷ e ∷ es) ((e.0, v) ∷ es) (e ∷ insert_entry R es k v))) [
       | Less ↦ (l, h)
       | Equal ↦ h
       | Greater ↦ (h.0, above_insert a es k v l h.1)
     ]
 
-    pub rise_insert : {X : Type 0} (es : List (K × X)) (k : K) (v : X) → KeysRise es → KeysRise (insert_entry R es k v)
+    pub rise_insert : {X : Type 0} (es : List (K × X)) (k : K) (v : X) → PairsRise es → PairsRise (insert_entry R es k v)
     rise_insert [] k v u = (tt, tt)
     rise_insert (e ∷ es) k v u = by_order (R k e.0)
-        (λ l. subst (λ (z : Ordering). KeysRise (match_ordering z ((k, v) ∷ e ∷ es) ((e.0, v) ∷ es) (e ∷ insert_entry R es k v))) (sym l) ((l, above_less k e.0 es l u.0), u))
-        (λ t. subst (λ (z : Ordering). KeysRise (match_ordering z ((k, v) ∷ e ∷ es) ((e.0, v) ∷ es) (e ∷ insert_entry R es k v))) (sym t) u)
-        (λ g. subst (λ (z : Ordering). KeysRise (match_ordering z ((k, v) ∷ e ∷ es) ((e.0, v) ∷ es) (e ∷ insert_entry R es k v))) (sym g)
+        (λ l. subst (λ (z : Ordering). PairsRise (match_ordering z ((k, v) ∷ e ∷ es) ((e.0, v) ∷ es) (e ∷ insert_entry R es k v))) (sym l) ((l, above_less k e.0 es l u.0), u))
+        (λ t. subst (λ (z : Ordering). PairsRise (match_ordering z ((k, v) ∷ e ∷ es) ((e.0, v) ∷ es) (e ∷ insert_entry R es k v))) (sym t) u)
+        (λ g. subst (λ (z : Ordering). PairsRise (match_ordering z ((k, v) ∷ e ∷ es) ((e.0, v) ∷ es) (e ∷ insert_entry R es k v))) (sym g)
         (above_insert e.0 es k v (o.antisymm e.0 k ∙ ap Rattle.std.specs.Ordering.ordering_reverse g) u.0, rise_insert es k v u.1))
 
-    pub at_remove : {X : Type 0} (q : K) (es : List (K × X)) (k : K) → KeysRise es → at q (remove_entry (is_at (R k)) es) ≡ cond (is_at (R q) k) None (at q es)
+    pub at_remove : {X : Type 0} (q : K) (es : List (K × X)) (k : K) → PairsRise es → at q (remove_entry (is_at (R k)) es) ≡ cond (is_at (R q) k) None (at q es)
     at_remove {X} q [] k u = cond_same {A = Option X} (is_at (R q) k) None
     at_remove q (e ∷ es) k u = ⊎_elim
         (λ (t : is_at (R k) e.0 ≡ true). ap (at q) (cond-true _ _ _ t) ∙ ⊎_elim
@@ -222,19 +229,19 @@ module _ {K : Type 0} (R : K → K → Ordering) where
         ∙ swap_tests (is_at (R q) e.0) (is_at (R q) k) (Some e.1) None (at q es) (tests_apart q k e.0 (λ t. cc (ap is_eq t, f))))
         (cases_Bool (is_at (R k) e.0))
 
-    above_remove : {X : Type 0} (a : K) (es : List (K × X)) (k : K) → KeysAbove a es → KeysAbove a (remove_entry (is_at (R k)) es)
+    above_remove : {X : Type 0} (a : K) (es : List (K × X)) (k : K) → AreAbove a es → AreAbove a (remove_entry (is_at (R k)) es)
     above_remove a [] k h = tt
-    above_remove a (e ∷ es) k h = elim (is_at (R k) e.0) as (λ z. KeysAbove a (cond z es (e ∷ remove_entry (is_at (R k)) es))) [ true ↦ h.1 | false ↦ (h.0, above_remove a es k h.1) ]
+    above_remove a (e ∷ es) k h = elim (is_at (R k) e.0) as (λ z. AreAbove a (cond z es (e ∷ remove_entry (is_at (R k)) es))) [ true ↦ h.1 | false ↦ (h.0, above_remove a es k h.1) ]
 
-    pub rise_remove : {X : Type 0} (es : List (K × X)) (k : K) → KeysRise es → KeysRise (remove_entry (is_at (R k)) es)
+    pub rise_remove : {X : Type 0} (es : List (K × X)) (k : K) → PairsRise es → PairsRise (remove_entry (is_at (R k)) es)
     rise_remove [] k u = tt
-    rise_remove (e ∷ es) k u = elim (is_at (R k) e.0) as (λ z. KeysRise (cond z es (e ∷ remove_entry (is_at (R k)) es))) [ true ↦ u.1 | false ↦ (above_remove e.0 es k u.0, rise_remove es k u.1) ]
+    rise_remove (e ∷ es) k u = elim (is_at (R k) e.0) as (λ z. PairsRise (cond z es (e ∷ remove_entry (is_at (R k)) es))) [ true ↦ u.1 | false ↦ (above_remove e.0 es k u.0, rise_remove es k u.1) ]
 
-    at_changed : {X : Type 0} (q : K) (es : List (K × X)) (k : K) (w : Option X) → KeysRise es → at q (changed R es k w) ≡ cond (is_at (R q) k) w (at q es)
+    at_changed : {X : Type 0} (q : K) (es : List (K × X)) (k : K) (w : Option X) → PairsRise es → at q (with_change R es k w) ≡ cond (is_at (R q) k) w (at q es)
     at_changed q es k None u = at_remove q es k u
     at_changed q es k (Some v) u = at_insert q es k v
 
-    pub rise_changed : {X : Type 0} (es : List (K × X)) (k : K) (w : Option X) → KeysRise es → KeysRise (changed R es k w)
+    pub rise_changed : {X : Type 0} (es : List (K × X)) (k : K) (w : Option X) → PairsRise es → PairsRise (with_change R es k w)
     rise_changed es k None u = rise_remove es k u
     rise_changed es k (Some v) u = rise_insert es k v u
 
@@ -243,13 +250,13 @@ module _ {K : Type 0} (R : K → K → Ordering) where
     pick_test false w c e = refl
 
     -- a change noted in a draft is that change of what the draft shows
-    pub note_change : {X : Type 0} (es : List (K × X)) (cs : List (K × Option X)) (k : K) (w : Option X) → KeysRise es → KeysRise cs → merged R es (insert_entry R cs k w) ≡ changed R (merged R es cs) k w
+    pub note_change : {X : Type 0} (es : List (K × X)) (cs : List (K × Option X)) (k : K) (w : Option X) → PairsRise es → PairsRise cs → merged R es (insert_entry R cs k w) ≡ with_change R (merged R es cs) k w
     note_change es cs k w u v = same_entries _ _ (rise_merged es _ u (rise_insert cs k w v)) (rise_changed _ k w (rise_merged es cs u v))
         (λ q. at_merged q es _ u (rise_insert cs k w v) ∙ ap (λ z. pick z (at q es)) (at_insert q cs k w) ∙ pick_test (is_at (R q) k) w (at q cs) (at q es)
         ∙ ap (λ z. cond (is_at (R q) k) w z) (sym (at_merged q es cs u v)) ∙ sym (at_changed q (merged R es cs) k w (rise_merged es cs u v)))
 
     -- the first change made in the base leaves what the draft shows
-    pub commit_change : {X : Type 0} (es : List (K × X)) (c : K × Option X) (cs : List (K × Option X)) → KeysRise es → KeysRise (c ∷ cs) → merged R (changed R es c.0 c.1) cs ≡ merged R es (c ∷ cs)
+    pub commit_change : {X : Type 0} (es : List (K × X)) (c : K × Option X) (cs : List (K × Option X)) → PairsRise es → PairsRise (c ∷ cs) → merged R (with_change R es c.0 c.1) cs ≡ merged R es (c ∷ cs)
     commit_change es c cs u v = same_entries _ _ (rise_merged _ cs (rise_changed es c.0 c.1 u) v.1) (rise_merged es (c ∷ cs) u v)
         (λ q. at_merged q _ cs (rise_changed es c.0 c.1 u) v.1 ∙ ap (pick (at q cs)) (at_changed q es c.0 c.1 u) ∙ ⊎_elim
         (λ (t : is_at (R q) c.0 ≡ true). ap (λ z. pick z (cond (is_at (R q) c.0) c.1 (at q es))) (none_at q cs (above_tied q c.0 cs (eq_true _ t) v.0)) ∙ cond-true _ _ _ t ∙ sym (ap (λ z. pick z (at q es)) (here q c cs t)))
@@ -257,66 +264,17 @@ module _ {K : Type 0} (R : K → K → Ordering) where
         (cases_Bool (is_at (R q) c.0))
         ∙ sym (at_merged q es (c ∷ cs) u v))
 
-    -- an entry made for a key, with what is there already
-    pub prepared : {X : Type 0} (es : List (K × X)) (cs : List (K × Option X)) (k : K) → KeysRise es → KeysRise cs → at k cs ≡ None → merged R es (insert_entry R cs k (at k es)) ≡ merged R es cs
-    prepared es cs k u v n = same_entries _ _ (rise_merged es _ u (rise_insert cs k _ v)) (rise_merged es cs u v)
-        (λ q. at_merged q es _ u (rise_insert cs k _ v) ∙ ap (λ z. pick z (at q es)) (at_insert q cs k (at k es)) ∙ ⊎_elim
-        (λ (t : is_at (R q) k ≡ true). let same : q ≡ k = exact _ _ (eq_true _ t) in
-        ap (λ z. pick z (at q es)) (cond-true _ _ _ t) ∙ ap (λ (x : K). at x es) (sym same) ∙ sym (ap (λ z. pick z (at q es)) (ap (λ (x : K). at x cs) same ∙ n)))
-        (λ (f : is_at (R q) k ≡ false). ap (λ z. pick z (at q es)) (cond-false _ _ _ f))
-        (cases_Bool (is_at (R q) k))
-        ∙ sym (at_merged q es cs u v))
-
-    -- a change taken back where nothing was
-    pub taken_back : {X : Type 0} (es : List (K × X)) (cs : List (K × Option X)) (k : K) → KeysRise es → KeysRise cs → at k es ≡ None → merged R es (remove_entry (is_at (R k)) cs) ≡ changed R (merged R es cs) k None
-    taken_back es cs k u v n = same_entries _ _ (rise_merged es _ u (rise_remove cs k v)) (rise_changed _ k None (rise_merged es cs u v))
-        (λ q. at_merged q es _ u (rise_remove cs k v) ∙ ap (λ z. pick z (at q es)) (at_remove q cs k v) ∙ ⊎_elim
-        (λ (t : is_at (R q) k ≡ true). ap (λ z. pick z (at q es)) (cond-true _ _ _ t) ∙ ap (λ (x : K). at x es) (exact _ _ (eq_true _ t)) ∙ n ∙ sym (cond-true _ _ _ t))
-        (λ (f : is_at (R q) k ≡ false). ap (λ z. pick z (at q es)) (cond-false _ _ _ f) ∙ sym (at_merged q es cs u v) ∙ sym (cond-false _ _ _ f))
-        (cases_Bool (is_at (R q) k))
-        ∙ sym (at_changed q (merged R es cs) k None (rise_merged es cs u v)))
-
-    -- ---- what is known of keys
-    pub known_after : {X : Type 0} (q : K) (es : List (K × X)) (k : K) (v : X) → is_some (at q es) ≡ true → is_some (at q (insert_entry R es k v)) ≡ true
-    known_after q es k v h = ap is_some (at_insert q es k v) ∙ ⊎_elim
-        (λ (t : is_at (R q) k ≡ true). ap is_some (cond-true _ _ _ t))
-        (λ (f : is_at (R q) k ≡ false). ap is_some (cond-false _ _ _ f) ∙ h)
-        (cases_Bool (is_at (R q) k))
-
-    pub known_itself : {X : Type 0} (es : List (K × X)) (k : K) (v : X) → is_some (at k (insert_entry R es k v)) ≡ true
-    known_itself es k v = ap is_some (at_insert k es k v ∙ cond-true _ _ _ (ap is_eq (tied_itself o k)))
-
-    pub all_insert : {X : Type 0} (P : K → Type 0) (es : List (K × X)) (k : K) (v : X) → All (λ e. P e.0) es → P k → All (λ e. P e.0) (insert_entry R es k v)
-    all_insert P [] k v a p = All-cons (λ e. P e.0) (k, v) [] p a
-    all_insert P (e ∷ es) k v a p = elim (R k e.0) as (λ z. All (λ e. P e.0) (match_ordering z ((k, v) ∷ e ∷ es) ((e.0, v) ∷ es) (e ∷ insert_entry R es k v))) [
-      | Less ↦ All-cons (λ e. P e.0) (k, v) (e ∷ es) p a
-      | Equal ↦ All-cons (λ e. P e.0) (e.0, v) es (All-head (λ e. P e.0) e es a) (All-tail (λ e. P e.0) e es a)
-      | Greater ↦ All-cons (λ e. P e.0) e _ (All-head (λ e. P e.0) e es a) (all_insert P es k v (All-tail (λ e. P e.0) e es a) p)
-    ]
-
-    pub all_remove : {X : Type 0} (P : K → Type 0) (es : List (K × X)) (k : K) → All (λ e. P e.0) es → All (λ e. P e.0) (remove_entry (is_at (R k)) es)
-    all_remove P [] k a = a
-    all_remove P (e ∷ es) k a = elim (is_at (R k) e.0) as (λ z. All (λ e. P e.0) (cond z es (e ∷ remove_entry (is_at (R k)) es))) [
-      | true ↦ All-tail (λ e. P e.0) e es a
-      | false ↦ All-cons (λ e. P e.0) e _ (All-head (λ e. P e.0) e es a) (all_remove P es k (All-tail (λ e. P e.0) e es a))
-    ]
-
-  pub remove_absent : {X : Type 0} (k : K) (es : List (K × X)) → lookup (is_at (R k)) es ≡ None → remove_entry (is_at (R k)) es ≡ es
-  remove_absent k [] n = refl
-  remove_absent k (e ∷ es) n = ⊎_elim
-      (λ (t : is_at (R k) e.0 ≡ true). cc (sym n ∙ cond-true _ _ _ t))
-      (λ (f : is_at (R k) e.0 ≡ false). cond-false _ _ _ f ∙ ap (λ (l : List (K × _)). e ∷ l) (remove_absent k es (sym (cond-false _ _ _ f) ∙ n)))
-      (cases_Bool (is_at (R k) e.0))
-
-  pub merged_none : {X : Type 0} (es : List (K × X)) → merged R es [] ≡ es
-  merged_none [] = refl
-  merged_none (e ∷ es) = ap (λ (l : List (K × _)). e ∷ l) (merged_none es)
+    -- changes that are a single one
+    pub merged_only : {X : Type 0} (es : List (K × X)) (cs rest : List (K × Option X)) (c : K × Option X) → PairsRise es → cs ≡ c ∷ rest → length cs ≡ 1 → with_change R es c.0 c.1 ≡ merged R es cs
+    merged_only {X} es cs rest c u is n =
+        let none : rest ≡ [] = nil_from_length rest (omega (arith, sym (ap length is) ∙ n)) in
+        sym (merged_none (with_change R es c.0 c.1)) ∙ commit_change es c [] u (tt, tt) ∙ ap (λ (l : List (K × Option X)). merged R es (c ∷ l)) (sym none) ∙ ap (merged R es) (sym is)
 
   -- what a map says of its keys
-  above_from : {X : Type 0} (k : K) (es : List (K × X)) → AllByRecursion (λ y. R k y ≡ Less) (keys_of es) → KeysAbove k es
+  above_from : {X : Type 0} (k : K) (es : List (K × X)) → AllByRecursion (λ y. R k y ≡ Less) (keys_of es) → AreAbove k es
   above_from k [] h = tt
   above_from k (e ∷ es) h = (h.0, above_from k es h.1)
 
-  pub rise_from : {X : Type 0} (es : List (K × X)) → IsStrictlySortedBy R (keys_of es) → KeysRise es
+  pub rise_from : {X : Type 0} (es : List (K × X)) → IsStrictlySortedBy R (keys_of es) → PairsRise es
   rise_from [] h = tt
   rise_from (e ∷ es) h = (above_from e.0 es (sorted_head R e.0 (keys_of es) h), rise_from es (sorted_tail R e.0 (keys_of es) h))

@@ -2,9 +2,5 @@ pub mod Cited
 pub mod Common
 pub mod ConversionLaws
 pub mod EntryLaws
-pub mod FromLaws
-pub mod LastLaws
-pub mod RowEntryLaws
 pub mod RowLaws
-pub mod ScanLaws
 pub mod StoredLaws

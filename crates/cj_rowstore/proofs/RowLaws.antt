@@ -1,15 +1,17 @@
 -- Rows with their keys: look-ups, rows put and rows taken out.
 use Rattle.std.proofs.Common.{◌≡◌, ℕ, Bool, true, false, cond, List, [], ◌∷◌, map, refl, ap, sym, ◌∙◌, subst, ⊎_elim, Ordering, Less, Equal, Greater, is_eq}
-use Rattle.std.proofs.lemmas.List.{length-map}
-use Rattle.std.specs.Prelude.{All, filter, fold, length, not, option_map, unwrap_or}
-use Rattle.cj_rowstore.proofs.Common.{All-cons, All-head, All-nil, All-tail, at, by_key, cases_Bool, cell, changed, cond-false, cond-true, insert_entry, is_at, kept, KeysAbove, KeysRise, match_ordering, merged, None, Option, ordering_reverse, put_by, remove_entry, Rises, row_with_key, Some, tied_itself, Value, value_cmp, value_exact, value_total, values_of}
+use Rattle.std.proofs.lemmas.List.{map-id}
+use Rattle.std.specs.Ordering.{is_le}
+use Rattle.std.specs.Prelude.{All, filter, fold, not}
+use Rattle.cj_rowstore.proofs.Common.{All-cons, All-head, All-nil, All-tail, at, by_key, cases_Bool, cell, cond-false, cond-true, insert_entry, is_at, AreAbove, PairsRise, match_ordering, merged, None, Option, ordering_reverse, put_by, remove_entry, Rises, row_with_key, rows_from, Some, tied_itself, Value, value_cmp, value_exact, value_total, values_of}
 use Rattle.cj_model.proofs.RisingLaws.{by_order}
-use Rattle.cj_rowstore.specs.RowEntries.{RowEntries, keyed, puts, removals}
-use Rattle.cj_rowstore.specs.Stored.{AreRows, KeepsKeys}
+use Rattle.cj_ptree.specs.Pairs.{retained, with_change}
+use Rattle.cj_rowstore.specs.RowEntries.{KeyedRows, RowEntries, from_key, keyed, puts, removals}
+use Rattle.cj_rowstore.specs.Stored.{KeepsKeys}
 use Rattle.cj_rowstore.proofs.EntryLaws.{note_change, merged_none, rise_insert}
 
 abbrev Entries : Type 0
-Entries = List (Value × List Value)
+Entries = KeyedRows
 
 -- ---- rows with their keys
 
@@ -29,11 +31,11 @@ pub at_keyed : (k : ℕ) (v : Value) (rows : List (List Value)) → at value_cmp
 at_keyed k v [] = refl
 at_keyed k v (r ∷ rows) = ap (λ b. cond b (Some r) (at value_cmp v (keyed k rows))) (is_eq-flip v (cell r k)) ∙ ap (λ o. cond (is_eq (value_cmp (cell r k) v)) (Some r) o) (at_keyed k v rows)
 
-above_keyed : (k : ℕ) (r : List Value) (rows : List (List Value)) → All (λ s. by_key k r s ≡ Less) rows → KeysAbove value_cmp (cell r k) (keyed k rows)
+above_keyed : (k : ℕ) (r : List Value) (rows : List (List Value)) → All (λ s. by_key k r s ≡ Less) rows → AreAbove value_cmp (cell r k) (keyed k rows)
 above_keyed k r [] a = tt
 above_keyed k r (s ∷ rows) a = (All-head (λ s. by_key k r s ≡ Less) s rows a, above_keyed k r rows (All-tail (λ s. by_key k r s ≡ Less) s rows a))
 
-pub rise_keyed : (k : ℕ) (rows : List (List Value)) → Rises (by_key k) rows → KeysRise value_cmp (keyed k rows)
+pub rise_keyed : (k : ℕ) (rows : List (List Value)) → Rises (by_key k) rows → PairsRise value_cmp (keyed k rows)
 rise_keyed k [] h = tt
 rise_keyed k (r ∷ rows) h = (above_keyed k r rows h.0, rise_keyed k rows h.1)
 
@@ -53,16 +55,16 @@ puts_keyed : (k : ℕ) (rows new : List (List Value)) → fold (λ (es : Entries
 puts_keyed k rows [] = refl
 puts_keyed k rows (r ∷ new) = ap (λ (es : Entries). fold (λ (es : Entries) r. insert_entry value_cmp es (cell r k) r) es new) (put_keyed k rows r) ∙ puts_keyed k (put_by (by_key k) rows r) new
 
-pub rise_each : (k : ℕ) (w : List Value → Option (List Value)) (cs : RowEntries) (new : List (List Value)) → KeysRise value_cmp cs → KeysRise value_cmp (fold (λ (cs : RowEntries) r. insert_entry value_cmp cs (cell r k) (w r)) cs new)
+pub rise_each : (k : ℕ) (w : List Value → Option (List Value)) (cs : RowEntries) (new : List (List Value)) → PairsRise value_cmp cs → PairsRise value_cmp (fold (λ (cs : RowEntries) r. insert_entry value_cmp cs (cell r k) (w r)) cs new)
 rise_each k w cs [] h = h
 rise_each k w cs (r ∷ new) h = rise_each k w (insert_entry value_cmp cs (cell r k) (w r)) new (rise_insert value_cmp value_total value_exact cs (cell r k) (w r) h)
 
-merged_each : (k : ℕ) (w : List Value → Option (List Value)) (es : Entries) (cs : RowEntries) (new : List (List Value)) → KeysRise value_cmp es → KeysRise value_cmp cs
-    → merged value_cmp es (fold (λ (cs : RowEntries) r. insert_entry value_cmp cs (cell r k) (w r)) cs new) ≡ fold (λ (es : Entries) r. changed value_cmp es (cell r k) (w r)) (merged value_cmp es cs) new
+merged_each : (k : ℕ) (w : List Value → Option (List Value)) (es : Entries) (cs : RowEntries) (new : List (List Value)) → PairsRise value_cmp es → PairsRise value_cmp cs
+    → merged value_cmp es (fold (λ (cs : RowEntries) r. insert_entry value_cmp cs (cell r k) (w r)) cs new) ≡ fold (λ (es : Entries) r. with_change value_cmp es (cell r k) (w r)) (merged value_cmp es cs) new
 merged_each k w es cs [] u v = refl
 merged_each k w es cs (r ∷ new) u v =
     merged_each k w es (insert_entry value_cmp cs (cell r k) (w r)) new u (rise_insert value_cmp value_total value_exact cs (cell r k) (w r) v)
-    ∙ ap (λ (es : Entries). fold (λ (es : Entries) r. changed value_cmp es (cell r k) (w r)) es new) (note_change value_cmp value_total value_exact es cs (cell r k) (w r) u v)
+    ∙ ap (λ (es : Entries). fold (λ (es : Entries) r. with_change value_cmp es (cell r k) (w r)) es new) (note_change value_cmp value_total value_exact es cs (cell r k) (w r) u v)
 
 -- rows put over rows
 pub merged_puts : (k : ℕ) (rows new : List (List Value)) → Rises (by_key k) rows → merged value_cmp (keyed k rows) (puts k new) ≡ keyed k (fold (put_by (by_key k)) rows new)
@@ -107,7 +109,7 @@ merged_removals k p rows h =
     ∙ ap (λ (es : Entries). fold (λ (es : Entries) s. remove_entry (is_at (value_cmp (cell s k))) es) es (filter p rows)) (merged_none value_cmp (keyed k rows))
     ∙ taken_out k p rows h
 
--- ---- rows changed, each with its key
+-- ---- rows  each with its key
 
 -- rows with greater keys are put past y
 pub fold_past : (k : ℕ) (y : List Value) (ys xs : List (List Value)) → All (λ x. by_key k y x ≡ Less) xs → fold (put_by (by_key k)) (y ∷ ys) xs ≡ y ∷ fold (put_by (by_key k)) ys xs
@@ -146,76 +148,34 @@ module _ (k : ℕ) (p : List Value → Bool) (f : List Value → List Value) (ke
       ∙ ap (λ (x : List Value). x ∷ map (λ r. cond (p r) (f r) r) rs) (sym (cond-false _ _ _ n)))
       (cases_Bool (p r))
 
--- ---- rows made anew
+-- ---- rows from a key on
 
-module _ (f : List Value → List Value) where
-  abbrev pub anew : RowEntries → RowEntries
-  anew es = map (λ e. (e.0, option_map f e.1)) es
+pub from_keyed : (k : ℕ) (v : Value) (rows : List (List Value)) → values_of (from_key v (keyed k rows)) ≡ rows_from k v rows
+from_keyed k v [] = refl
+from_keyed k v (r ∷ rows) = elim (is_le (value_cmp v (cell r k))) as (λ b. values_of (cond b ((cell r k, r) ∷ from_key v (keyed k rows)) (from_key v (keyed k rows))) ≡ cond b (r ∷ rows_from k v rows) (rows_from k v rows)) [
+  | true ↦ ap (λ l. r ∷ l) (from_keyed k v rows)
+  | false ↦ from_keyed k v rows
+]
 
-  abbrev values_anew : Entries → Entries
-  values_anew es = map (λ e. (e.0, f e.1)) es
+-- ---- rows edited
 
-  above_anew : (v : Value) (es : RowEntries) → KeysAbove value_cmp v es → KeysAbove value_cmp v (anew es)
-  above_anew v [] h = tt
-  above_anew v (e ∷ es) h = (h.0, above_anew v es h.1)
+pub retained_all : {K V : Type 0} (f : V → V) (es : List (K × V)) → retained (λ _. true) f es ≡ map (λ e. (e.0, f e.1)) es
+retained_all f [] = refl
+retained_all {K} {V} f (e ∷ es) = ap (λ (l : List (K × V)). (e.0, f e.1) ∷ l) (retained_all f es)
 
-  pub rise_anew : (es : RowEntries) → KeysRise value_cmp es → KeysRise value_cmp (anew es)
-  rise_anew [] h = tt
-  rise_anew (e ∷ es) h = (above_anew e.0 es h.0, rise_anew es h.1)
+pub retained_some : {K V : Type 0} (p : V → Bool) (es : List (K × V)) → retained p (λ v. v) es ≡ filter (λ e. p e.1) es
+retained_some p es = map-id (filter (λ e. p e.1) es)
 
-  kept_anew : (es : RowEntries) → kept (anew es) ≡ values_anew (kept es)
-  kept_anew [] = refl
-  kept_anew ((v, None) ∷ es) = kept_anew es
-  kept_anew ((v, Some r) ∷ es) = ap (λ (l : Entries). (v, f r) ∷ l) (kept_anew es)
-
-  pub rows_anew : (es : RowEntries) → values_of (kept (anew es)) ≡ map f (values_of (kept es))
-  rows_anew [] = refl
-  rows_anew ((v, None) ∷ es) = rows_anew es
-  rows_anew ((v, Some r) ∷ es) = ap (λ (l : List (List Value)). f r ∷ l) (rows_anew es)
-
-  module _ (k : ℕ) (keeps : KeepsKeys k f) where
-    keyed_anew : (rows : List (List Value)) → values_anew (keyed k rows) ≡ keyed k (map f rows)
-    keyed_anew [] = refl
-    keyed_anew (r ∷ rows) = ap (λ (v : Value). (v, f r) ∷ values_anew (keyed k rows)) (sym (keeps.same r)) ∙ ap (λ (l : Entries). (cell (f r) k, f r) ∷ l) (keyed_anew rows)
-
-    pub own_anew : (es : RowEntries) (n : ℕ) → AreRows k (kept es) n → AreRows k (kept (anew es)) n
-    own_anew es n a = record {
-      own_keys = kept_anew es ∙ ap values_anew a.own_keys ∙ keyed_anew (values_of (kept es)) ∙ sym (ap (keyed k) (rows_anew es));
-      count = a.count ∙ sym (ap length (rows_anew es) ∙ length-map (values_of (kept es)) f);
-    }
+module _ (k : ℕ) (f : List Value → List Value) (keeps : KeepsKeys k f) where
+  pub edited_keyed : (rows : List (List Value)) → map (λ e. (e.0, f e.1)) (keyed k rows) ≡ keyed k (map f rows)
+  edited_keyed [] = refl
+  edited_keyed (r ∷ rows) = ap (λ (v : Value). (v, f r) ∷ map (λ e. (e.0, f e.1)) (keyed k rows)) (sym (keeps.same r)) ∙ ap (λ (l : Entries). (cell (f r) k, f r) ∷ l) (edited_keyed rows)
 
 -- ---- rows that pass
 
-module _ (p : List Value → Bool) where
-  abbrev pub passing : Entries → Entries
-  passing es = filter (λ e. p e.1) es
-
-  abbrev entries_passing : RowEntries → RowEntries
-  entries_passing es = filter (λ e. unwrap_or (option_map p e.1) false) es
-
-  pub kept_passing : (es : RowEntries) → kept (entries_passing es) ≡ passing (kept es)
-  kept_passing [] = refl
-  kept_passing ((v, None) ∷ es) = kept_passing es
-  kept_passing ((v, Some r) ∷ es) = elim (p r) as (λ b. kept (cond b ((v, Some r) ∷ entries_passing es) (entries_passing es)) ≡ cond b ((v, r) ∷ passing (kept es)) (passing (kept es))) [
-    | true ↦ ap (λ (l : Entries). (v, r) ∷ l) (kept_passing es)
-    | false ↦ kept_passing es
-  ]
-
-  pub rows_passing : (es : Entries) → values_of (passing es) ≡ filter p (values_of es)
-  rows_passing [] = refl
-  rows_passing (e ∷ es) = elim (p e.1) as (λ b. values_of (cond b (e ∷ passing es) (passing es)) ≡ cond b (e.1 ∷ filter p (values_of es)) (filter p (values_of es))) [
-    | true ↦ ap (λ (l : List (List Value)). e.1 ∷ l) (rows_passing es)
-    | false ↦ rows_passing es
-  ]
-
-  keyed_passing : (k : ℕ) (rows : List (List Value)) → passing (keyed k rows) ≡ keyed k (filter p rows)
-  keyed_passing k [] = refl
-  keyed_passing k (r ∷ rows) = elim (p r) as (λ b. cond b ((cell r k, r) ∷ passing (keyed k rows)) (passing (keyed k rows)) ≡ keyed k (cond b (r ∷ filter p rows) (filter p rows))) [
-    | true ↦ ap (λ (l : Entries). (cell r k, r) ∷ l) (keyed_passing k rows)
-    | false ↦ keyed_passing k rows
-  ]
-
-  pub own_passing : (k : ℕ) (es new : Entries) → new ≡ passing es → es ≡ keyed k (values_of es) → AreRows k new (length (filter p (values_of es)))
-  own_passing k es new e own =
-      let rows : values_of new ≡ filter p (values_of es) = ap values_of e ∙ rows_passing es in
-      record { own_keys = e ∙ ap passing own ∙ keyed_passing k (values_of es) ∙ sym (ap (keyed k) rows); count = sym (ap length rows) }
+pub passing_keyed : (k : ℕ) (p : List Value → Bool) (rows : List (List Value)) → filter (λ e. p e.1) (keyed k rows) ≡ keyed k (filter p rows)
+passing_keyed k p [] = refl
+passing_keyed k p (r ∷ rows) = elim (p r) as (λ b. cond b ((cell r k, r) ∷ filter (λ e. p e.1) (keyed k rows)) (filter (λ e. p e.1) (keyed k rows)) ≡ keyed k (cond b (r ∷ filter p rows) (filter p rows))) [
+  | true ↦ ap (λ (l : Entries). (cell r k, r) ∷ l) (passing_keyed k p rows)
+  | false ↦ passing_keyed k p rows
+]

@@ -1,12 +1,10 @@
 -- Entries with changes laid over them, both in rising key. A change is a new value, or none where the entry is
 -- removed.
-use Rattle.std.specs.Prelude.{◌++◌, List, [], ◌∷◌}
+use Rattle.std.specs.Prelude.{List, [], ◌∷◌}
 use Rattle.std.specs.Ordering.{match_ordering}
 use Rattle.std.specs.declared.cmp.Ordering.{Ordering}
 use Rattle.std.specs.declared.option.Option.{Option}
 use Rattle.std.specs.declared.option.Option.TheVariants.{None, Some}
-use Rattle.std.specs.BTreeMap.{insert_entry, is_at}
-use Rattle.std.specs.Map.{remove_entry}
 
 module _ {K X : Type 0} where
   -- the entries, preceded by one for `k` where there is a value
@@ -29,23 +27,3 @@ module _ {K X : Type 0} where
     abbrev pub merged : List (K × X) → List (K × Option X) → List (K × X)
     merged [] cs = kept cs
     merged (b ∷ bs) cs = onto (λ ds. merged bs ds) b cs
-
-    -- the entries after one change: the key gets this value, or is removed where there is none
-    abbrev pub changed : List (K × X) → K → Option X → List (K × X)
-    changed es k None = remove_entry (is_at (R k)) es
-    changed es k (Some v) = insert_entry R es k v
-
--- the value as a list of one, or the empty list
-abbrev pub option_as_list : {X : Type 0} → Option X → List X
-option_as_list None = []
-option_as_list (Some x) = x ∷ []
-
--- what is still to come of a sequence where `first` was read ahead and `rest` is left
-abbrev pub pending : {A X : Type 0} → (A → X) → Option A → List X → List X
-pending shows None rest = []
-pending shows (Some x) rest = shows x ∷ rest
-
--- what is still to come of a sequence from the back where `last` was read ahead and `rest` is left
-abbrev pub pending_back : {A X : Type 0} → (A → X) → Option A → List X → List X
-pending_back shows None rest = []
-pending_back shows (Some x) rest = rest ++ shows x ∷ []

@@ -10,41 +10,44 @@ use Rattle.cj_model.specs.declared.database.Slot.{Slot}
 use Rattle.cj_model.specs.Database.Values.{value_cmp}
 use Rattle.cj_model.specs.Database.Steps.{seen, with_table}
 use Rattle.cj_model.specs.Database.Tables.{cell}
+use Rattle.cj_ptree.specs.Pairs.{PairsRise}
 use Rattle.cj_rowstore.specs.declared.stored.StoredDraft.{StoredDraft}
-use Rattle.cj_rowstore.specs.Entries.{KeysRise}
-use Rattle.cj_rowstore.specs.Layers.{kept, merged}
-use Rattle.cj_rowstore.specs.RowEntries.{RowEntries, KnowsKeys, keyed, overlaid}
+use Rattle.cj_rowstore.specs.Layers.{merged}
+use Rattle.cj_rowstore.specs.RowEntries.{KeyedRows, RowEntries, keyed}
 
 -- ---- what is shown
 
 -- the draft of a stored table as the vocabulary has it
-abbrev pub shown_draft : Schema → RowEntries → Option StoredDraft → Option Draft
-shown_draft schema base None = None
-shown_draft schema base (Some d) = Some (record { tx = d.tx; table = record { schema = schema; rows = values_of (overlaid base d.changes) } })
+abbrev pub shown_draft : Schema → Option StoredDraft → Option Draft
+shown_draft schema None = None
+shown_draft schema (Some d) = Some (record { tx = d.tx; table = record { schema = schema; rows = values_of d.version } })
 
 -- a stored table as a slot of the vocabulary
-abbrev pub slot_shown : Schema → RowEntries → Option StoredDraft → Slot
-slot_shown schema base draft = record { base = record { schema = schema; rows = values_of (kept base) }; draft = shown_draft schema base draft }
+abbrev pub slot_shown : Schema → KeyedRows → Option StoredDraft → Slot
+slot_shown schema base draft = record { base = record { schema = schema; rows = values_of base }; draft = shown_draft schema draft }
 
 -- ---- what is kept
 
--- each entry has its row's own key, and `n` is the number of entries
-pub record AreRows (k : ℕ) (entries : List (Value × List Value)) (n : ℕ) : Type 0 where
-  pub own_keys : entries ≡ keyed k (values_of entries)
-  pub count : n ≡ length (values_of entries)
+-- each row is at its own key
+abbrev pub AreOwn : ℕ → KeyedRows → Type 0
+AreOwn k entries = entries ≡ keyed k (values_of entries)
 
--- the draft's transaction is above 0, its changes concern keys that the base has, and its count is right
-abbrev pub DraftHolds : ℕ → RowEntries → Option StoredDraft → Type 0
-DraftHolds k base None = ⊤
-DraftHolds k base (Some d) = (0 < d.tx) × KeysRise value_cmp d.changes × KnowsKeys base d.changes × AreRows k (overlaid base d.changes) d.count
+-- the draft's transaction is above 0, and its rows are at their own keys
+abbrev pub DraftHolds : ℕ → Option StoredDraft → Type 0
+DraftHolds k None = ⊤
+DraftHolds k (Some d) = (0 < d.tx) × AreOwn k d.version
 
--- the base's keys rise, its rows are at their own keys and counted, and the draft is sound
-pub record HoldsTable (k : ℕ) (base : RowEntries) (n : ℕ) (d : Option StoredDraft) : Type 0 where
-  pub rises : KeysRise value_cmp base
-  pub rows : AreRows k (kept base) n
-  pub draft : DraftHolds k base d
+-- the rows of the base, and of the draft if there is one, are at their own keys
+pub record HoldsTable (k : ℕ) (base : KeyedRows) (d : Option StoredDraft) : Type 0 where
+  pub own_base : AreOwn k base
+  pub own_draft : DraftHolds k d
 
 -- ---- changes
+
+-- each entry has its row's own key, and `n` is the number of entries
+pub record AreRows (k : ℕ) (entries : KeyedRows) (n : ℕ) : Type 0 where
+  pub own_keys : AreOwn k entries
+  pub count : n ≡ length (values_of entries)
 
 -- the rows that the changes leave of these rows
 abbrev pub rows_after : ℕ → List (List Value) → RowEntries → List (List Value)
@@ -56,7 +59,7 @@ changed_slot s tx changes = with_table s tx (record { schema = s.base.schema; ro
 
 -- the changes are in rising key, and leave so many rows, each at its own key
 pub record IsChangeOf (k : ℕ) (old : List (List Value)) (changes : RowEntries) (n : ℕ) : Type 0 where
-  pub rises : KeysRise value_cmp changes
+  pub rises : PairsRise value_cmp changes
   pub rows : AreRows k (merged value_cmp (keyed k old) changes) n
 
 -- the function leaves the key of each row as it is

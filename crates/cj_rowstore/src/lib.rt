@@ -1,12 +1,12 @@
-//! One table as an ordered tree of rows by key, with the uncommitted changes of one transaction (its draft).
+//! One table as a persistent ordered map of rows by key, with the uncommitted version of one transaction (its draft).
 //!
 //! Contracts see a `StoredTable` as a slot of the vocabulary, and a `View` as the table that one transaction
-//! sees. A scan is seen as the rows that are left, in rising or falling key. `commit`, `abort`, `edit_rows` and
-//! `keep_rows` can't fail. If `change` runs out of memory, every transaction sees what it saw before.
+//! sees. A scan is seen as the rows that are left, in rising or falling key. `commit` and `abort` can't fail. If
+//! another call runs out of memory, every transaction sees what it saw before. A snapshot copies no row.
 //!
-//! The layout of rows is in `stored_row` and `row_map`, walks are in `scan` and `scan_back`. A new way to edit or
-//! test rows in place implements `RowEdit` or `RowTest`. Read `specs/RowEntries` and `specs/Stored` first, then
-//! `proofs/StoredLaws`, `proofs/RowEntryLaws` and `proofs/ScanLaws`.
+//! `version` has the rows at one time, in a map of `cj_ptree`, and `row_map` has changes of them. The layout of rows is
+//! in `stored_row`, walks are in `scan` and `scan_back`. A new way to edit or test rows in place implements `RowEdit`
+//! or `RowTest`. Read `specs/RowEntries` and `specs/Stored` first, then `proofs/EntryLaws` and `proofs/RowLaws`.
 #![tactic(auto)]
 
 mod keys;
@@ -15,8 +15,10 @@ mod row_map;
 mod row_predicate;
 mod scan;
 mod scan_back;
+mod shared;
 mod stored;
 mod stored_row;
+mod version;
 mod view;
 
 pub use keys::{key_in, key_of};

@@ -7,9 +7,8 @@ pub use Rattle.cj_model.specs.Database.Tables.{IsDatabase}
 pub use Rattle.cj_model.specs.declared.answer.Outcome.TheVariants.{Refused}
 pub use Rattle.cj_model.specs.declared.database.Draft.{Draft}
 pub use Rattle.cj_dml.proofs.PlanLaws.{from_some}
-pub use Rattle.cj_rowstore.proofs.Common.{Rises, append-nil, by_key, cell, insert_entry, map-append}
+pub use Rattle.cj_rowstore.proofs.Common.{PairsRise, Rises, append-nil, by_key, cell, insert_entry, map-append}
 pub use Rattle.cj_rowstore.proofs.ConversionLaws.{draft_put, filled, puts_rise, table_filled, turned_all, turned_more}
-pub use Rattle.cj_rowstore.specs.Entries.{KeysRise}
 pub use Rattle.cj_rowstore.specs.RowEntries.{RowEntries, SettlesRow, TurnsInto, puts}
 pub use Rattle.cj_rowstore.specs.Stored.{IsChangeOf, rows_after}
 pub use Rattle.cj_table.proofs.CarriedLaws.{carried_is_database}

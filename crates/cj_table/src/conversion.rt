@@ -45,7 +45,8 @@ fn stored_table(alloc: Global, table: Table) -> Result<StoredTable, NoMemory>
     let Table { schema, rows } = table;
     let count = rows.len();
     let changes = puts(alloc, schema.key as usize, rows)?;
-    Ok(StoredTable::of(schema, changes, count))
+    let stored = StoredTable::of(alloc, schema, changes, count)?;
+    Ok(stored)
 }
 
 /// Makes this the draft of a stored table that has none.
@@ -59,7 +60,7 @@ fn put_draft(alloc: Global, stored: &mut StoredTable, draft: Draft) -> Result<()
     let count = rows.len();
     let place = stored.schema().key as usize;
     let changes = changes_to(alloc, place, stored.scan(tx), rows)?;
-    stored.change(alloc, tx, changes, count)
+    stored.change(tx, changes, count)
 }
 
 /// The stored form of a slot.

@@ -8,7 +8,6 @@ ghost use Rattle.cj_model.specs.Database.Tables.{table_of};
 use crate::slots::find;
 use cj_model::{LOCKED, NO_TABLE, Name, Outcome, Refusal};
 use cj_rowstore::StoredTable;
-use std::alloc::Global;
 
 fn remove_slot(slots: &mut Vec<StoredTable>, name: &Name)
     ensures { slots.new.items ≡ filter (λ s. not (bytes_eq (table_of s) name.now)) slots.old.items }
@@ -39,11 +38,11 @@ pub fn drop_slot(slots: &mut Vec<StoredTable>, name: &Name) -> Outcome
 }
 
 /// Commits the drafts of transaction `tx` in all tables, without allocation.
-pub fn commit_slots(alloc: Global, slots: &mut Vec<StoredTable>, tx: u64)
+pub fn commit_slots(slots: &mut Vec<StoredTable>, tx: u64)
     ensures { slots.new.items ≡ map (committed tx) slots.old.items }
 {
     for slot in slots.iter_mut() {
-        slot.commit(alloc, tx);
+        slot.commit(tx);
     }
 }
 

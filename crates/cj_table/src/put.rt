@@ -51,7 +51,8 @@ fn slot_made(alloc: Global, schema: Schema, rows: Rows) -> Result<Option<StoredT
     let Some(changes) = puts(alloc, schema.key as usize, rows)? else {
         return Ok(None);
     };
-    Ok(Some(StoredTable::of(schema, changes, count)))
+    let slot = StoredTable::of(alloc, schema, changes, count)?;
+    Ok(Some(slot))
 }
 
 /// Puts a table with these rows, in place of one of its name. False, with the slots unchanged, if the

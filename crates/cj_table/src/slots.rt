@@ -82,15 +82,15 @@ fn write_slot(
     }
     match decided_for(alloc, slot, tx, write)? {
         Ok(Change::ByKey(plan)) => {
-            slot.change(alloc, tx, plan.changes, plan.count)?;
+            slot.change(tx, plan.changes, plan.count)?;
             Ok(Outcome::Done(plan.written))
         }
         Ok(Change::InPlace { edit, written }) => {
-            slot.edit_rows(&edit);
+            slot.edit_rows(&edit)?;
             Ok(Outcome::Done(written))
         }
         Ok(Change::Removal { by, count, written }) => {
-            slot.keep_rows(&by, count);
+            slot.keep_rows(&by, count)?;
             Ok(Outcome::Done(written))
         }
         Err(refusal) => Ok(Outcome::Refused(refusal)),

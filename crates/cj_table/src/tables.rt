@@ -11,14 +11,15 @@ use crate::conversion::{copied_slots, stored_slots};
 use crate::ends::{abort_slots, commit_slots, drop_slot};
 use crate::put::put_table;
 use crate::slots::{create_slot, find, write_slots};
+use crate::snapshots::slots_again;
 use crate::writers::writers_in;
 use cj_model::{COLUMN_LIMIT, Create, Db, Name, NoMemory, Outcome, Rows, Schema, Write};
 use cj_rowstore::{StoredTable, View};
 use std::alloc::Global;
 use std::marker::Model;
 
-/// A database in memory. Contracts see its slots in rising name of their tables. Each table is a tree of
-/// rows by key, and a draft is a tree of the keys that its transaction has changed.
+/// A database in memory. Contracts see its slots in rising name of their tables. Each table is a tree of rows by key,
+/// and a draft is a tree that shares what its transaction has not changed.
 #[derive(Drop)]
 pub struct Tables {
     slots: Vec<StoredTable>,
@@ -94,7 +95,7 @@ impl Tables {
         ensures ok { OnOk result (self.new ≡ map (committed tx) self.old) }
         ensures err { OnErr result (self.new ≡ self.old) }
     {
-        commit_slots(self.alloc, &mut self.slots, tx);
+        commit_slots(&mut self.slots, tx);
         Ok(())
     }
 
@@ -122,6 +123,17 @@ impl Tables {
         ensures { IfOk result (λ db. db ≡ self.now) }
     {
         copied_slots(self.alloc, &self.slots)
+    }
+
+    /// The same database again, drafts included. It shares all rows and schemas with this one: only the list of tables
+    /// is copied. Fails only with `NoMemory`.
+    pub fn snapshot(&self) -> Result<Tables, NoMemory>
+        ensures { IfOk result (λ copy. copy ≡ self.now) }
+    {
+        Ok(Tables {
+            slots: slots_again(self.alloc, &self.slots)?,
+            alloc: self.alloc,
+        })
     }
 
     /// The transactions that have a draft, in rising number. Fails only with `NoMemory`.

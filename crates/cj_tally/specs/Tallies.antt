@@ -1,5 +1,5 @@
 -- What the backends did with the open entry, and what its session is answered.
-use Rattle.std.specs.Prelude.{◌≡◌, ◌≢◌, ◌⊎◌, ℕ, Bool, true, false, List, [], ◌∷◌, ◌++◌, IsSome}
+use Rattle.std.specs.Prelude.{◌≡◌, ◌≢◌, ◌⊎◌, ℕ, ◌<◌, Bool, true, false, List, [], ◌∷◌, ◌++◌, IsSome}
 use Rattle.std.specs.declared.option.Option.{Option}
 use Rattle.std.specs.declared.option.Option.TheVariants.{None, Some}
 use Rattle.cj_model.specs.declared.answer.Outcome.{Outcome}
@@ -54,6 +54,18 @@ with_report t b d = record {
   first_outcome = first_outcome_after t.first_outcome d;
 }
 
+-- backend b has reported
+abbrev pub HasReported : Tally → ℕ → Type 0
+HasReported t b = (in_mask t.taken b ≡ true) ⊎ (in_mask t.failed b ≡ true) ⊎ (in_mask t.starved b ≡ true)
+
+-- each backend of the mask below `count` has reported
+abbrev pub HaveReportedBelow : ℕ → ℕ → Tally → Type 0
+HaveReportedBelow count mask t = (b : ℕ) → b < count → in_mask mask b ≡ true → HasReported t b
+
+-- who has reported in the first tally has done so in the second
+abbrev pub KeepsReports : Tally → Tally → Type 0
+KeepsReports t s = (b : ℕ) → HasReported t b → HasReported s b
+
 -- ---- right reports
 
 -- the outcome is one that an entry may have; if the backends tell what they hold, that of entry i on the one database
@@ -100,7 +112,7 @@ AreTargets p h e targets = (b : ℕ) → (in_mask targets b ≡ true → IsTarge
 
 -- each backend of the mask has reported
 abbrev pub HaveReported : ℕ → Tally → Type 0
-HaveReported targets t = (b : ℕ) → in_mask targets b ≡ true → (in_mask t.taken b ≡ true) ⊎ (in_mask t.failed b ≡ true) ⊎ (in_mask t.starved b ≡ true)
+HaveReported targets t = (b : ℕ) → in_mask targets b ≡ true → HasReported t b
 
 -- If each target of an open and served entry has reported, and rightly, this reply is the entry's,
 -- once it ends with the masks of the tally.

@@ -3,7 +3,7 @@
 ghost use Rattle.std.specs.Prelude.{◌≡◌, ◌<◌, ℕ, Bool, List};
 ghost use Rattle.cj_model.specs.Cluster.Placements.{Placement};
 ghost use Rattle.cj_model.specs.declared.request.Entry.{Entry};
-ghost use Rattle.cj_tally.specs.Tallies.{no_reports, with_report, AnswersByTally, IsReportOf, IsTallyOf, RefusesEntry, RepliesTo};
+ghost use Rattle.cj_tally.specs.Tallies.{no_reports, with_report, AnswersByTally, HasReported, IsReportOf, IsTallyOf, KeepsReports, RefusesEntry, RepliesTo};
 
 use cj_cluster::Did;
 use cj_model::{Outcome, Refusal, Reply, STARVED_ALL, UNFINISHED, with_bit};
@@ -57,6 +57,8 @@ impl Tally {
     pub fn took(&mut self, b: u8, did: Did)
         requires { b < 32 }
         ensures report { self.new ≡ with_report self.old b did }
+        ensures reported { HasReported self.new b }
+        ensures others { KeepsReports self.old self.new }
         ensures tally { (tells : Bool) (p : Placement) (entries : List Entry) (i : ℕ) (e : Entry) → IsTallyOf tells p entries i e self.old → IsReportOf tells p entries i e b did → IsTallyOf tells p entries i e self.new }
     {
         match did {

@@ -8,6 +8,7 @@ ghost use Rattle.cj_place.specs.Layouts.{placement_of};
 ghost use Rattle.cj_board.specs.Seats.{front, pass_view};
 ghost use Rattle.cj_pass.specs.Passes.{HasNotedMore};
 ghost use Rattle.cj_locked_cell.specs.Taking.{HasTallied, ReportsEntry};
+ghost use Rattle.cj_tally.specs.Tallies.{HasReported, KeepsReports};
 ghost use Rattle.cj_workers.specs.Reports.{TellsEntry};
 
 use cj_cluster::Did;
@@ -25,7 +26,6 @@ pub struct Report<J: Naming> {
     pub backend: u8,
     pub did: Did,
     pub pass: Pass<J>,
-    ghost few: { backend < BACKEND_LIMIT },
     ghost scheduled: { slice_get (log (front pass.seat)) (number - 1) ≡ Some (arc_value entry) },
     ghost tells: { TellsEntry J.tells (placement_of J.layout) number (arc_value entry) (pass_view pass.seat) backend did },
 }
@@ -39,7 +39,6 @@ impl<J: Naming> Report<J> {
         did: Did,
         pass: Pass<J>,
     ) -> Report<J>
-        requires few { backend < BACKEND_LIMIT }
         requires scheduled { slice_get (log (front pass.seat)) (number - 1) ≡ Some (arc_value entry) }
         requires reports { ReportsEntry J.tells (placement_of J.layout) number (arc_value entry) (pass_view pass.seat) backend did }
         ensures { result.number ≡ number }
@@ -53,12 +52,23 @@ impl<J: Naming> Report<J> {
         }
     }
 
-    /// Adds the report to the tally of its entry, which the pass has seen. The pass has noted the report then.
-    pub fn count(self, board: &NamedBoard<J>, pass: &mut Pass<J>, e: &Entry, tally: &mut Tally)
+    /// Adds the report of backend `b` to the tally of its entry, which the pass has seen. The pass has noted the report
+    /// then. The report of another backend counts as one that ran out of memory, in a branch that never runs.
+    pub fn count(
+        self,
+        board: &NamedBoard<J>,
+        pass: &mut Pass<J>,
+        b: u8,
+        e: &Entry,
+        tally: &mut Tally,
+    )
+        requires few { b < BACKEND_LIMIT }
         requires entry { slice_get (log (front pass.old.seat)) (self.number - 1) ≡ Some e.now }
         requires tallied { HasTallied J.tells (placement_of J.layout) self.number e.now (pass_view pass.old.seat) tally.old }
         ensures more { HasNotedMore (pass_view pass.old.seat) (pass_view pass.new.seat) }
         ensures tallied { HasTallied J.tells (placement_of J.layout) self.number e.now (pass_view pass.new.seat) tally.new }
+        ensures reported { HasReported tally.new b }
+        ensures others { KeepsReports tally.old tally.new }
     {
         let Report {
             backend,
@@ -67,6 +77,10 @@ impl<J: Naming> Report<J> {
             ..
         } = self;
         board.rejoin(pass, other);
-        tally.took(backend, did);
+        if backend != b {
+            tally.took(b, Did::Starved);
+            return;
+        }
+        tally.took(b, did);
     }
 }

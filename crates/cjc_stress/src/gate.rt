@@ -13,6 +13,7 @@ pub struct Slow<R: Clock + Copy> {
 }
 
 impl<R: Clock + Copy> Slow<R> {
+    /// Makes a gate of these times, by this clock.
     pub fn new(clock: R, query: u64, write: u64) -> Slow<R> {
         Slow {
             clock,
@@ -39,10 +40,6 @@ impl<R: Clock + Copy> Gate for Slow<R> {
     }
 
     fn again(&self) -> Option<Slow<R>> {
-        Some(Slow {
-            clock: self.clock,
-            query: self.query,
-            write: self.write,
-        })
+        Some(Slow::new(self.clock, self.query, self.write))
     }
 }

@@ -2,7 +2,7 @@
 use Rattle.std.specs.Prelude.{◌≡◌, ◌==◌, ◌&&◌, ℕ, List, [], ◌++◌, Bool, true, false, Option, None, Some, refl}
 use Rattle.std.specs.Bool.{Decides}
 use Rattle.std.specs.Cmp.{IsEquivalence, decided}
-use Rattle.std.specs.Hash.{slice, u8, i64, same_Alike}
+use Rattle.std.specs.Hash.{slice, u8, i64, u64, same_Alike}
 use Rattle.std.specs.Str.{bytes_eq}
 use Rattle.std.proofs.Common.{ap, sym, ◌∙◌}
 use Rattle.std.proofs.lemmas.Bool.{and_from, and_parts, both_ways, eqb-true, eq-eqb}
@@ -63,7 +63,7 @@ same_statement-Decides s t = (
 pub statement_equiv : IsEquivalence same_statement
 statement_equiv = decided same_statement same_statement-Decides
 
--- ---- what a hash reads of a statement: the tables that it needs, and the literals of its condition
+-- ---- what a hash reads of a statement: the tables that it needs, the columns and literals of its condition, its limit
 
 abbrev pub fed_name : List ℕ → List (List ℕ)
 fed_name = slice u8
@@ -74,7 +74,7 @@ fed_value (Text bytes) = slice u8 bytes
 
 abbrev pub fed_term : Term → List (List ℕ)
 fed_term (term.Lit v) = fed_value v
-fed_term (term.Col column) = []
+fed_term (term.Col column) = fed_name column.column
 fed_term term.Now = []
 fed_term (term.Rand n) = []
 
@@ -88,8 +88,12 @@ abbrev pub fed_where : Option Condition → List (List ℕ)
 fed_where None = []
 fed_where (Some x) = fed_condition x
 
+abbrev pub fed_limit : Option ℕ → List (List ℕ)
+fed_limit None = []
+fed_limit (Some n) = u64 n
+
 abbrev pub fed_statement : Select → List (List ℕ)
-fed_statement s = slice fed_name s.tables ++ fed_where s.cond
+fed_statement s = slice fed_name s.tables ++ fed_where s.cond ++ fed_limit s.limit
 
 pub names_alike : (m n : List ℕ) → bytes_eq m n ≡ true → fed_name m ≡ fed_name n
 names_alike = (same_Alike fed_name bytes_eq-Decides).fed

@@ -12,6 +12,6 @@ of-requires c =
 pub returns : goal.returns
 returns c =
     let schema = c.args.table.schema in
-    c.of.ensures
+    c.in_ok-stored.ensures
     ∙ ap (λ (cs : RowEntries). record { base = record { schema = schema; rows = rows_after schema.key [] cs }; draft = None }) c.in_ok-changes.ensures
     ∙ table_filled schema c.args.table.rows c.requires.rises

@@ -7,6 +7,6 @@ of-requires c = putting c.args.schema c.args.rows c.in-Some.changes (from_some _
 
 pub returns : goal.returns
 returns c =
-    ap Some c.of.ensures
+    ap Some c.in_ok-slot.ensures
     ∙ slot_put c.args.schema c.args.rows c.in-Some.changes (from_some _ _ _ (sym c.in-Some.is ∙ c.in_ok-changes.ensures))
     (sym c.may_be_table.ensures ∙ c.if-not-may_be_table.false)

@@ -1,4 +1,4 @@
-use Rattle.std.proofs.Common.{◌≡◌, ◌+◌, ℕ, ◌++◌, ◌∷◌, [], List, None, Some, true, refl, ap, sym, ◌∙◌, subst}
+use Rattle.std.proofs.Common.{◌≡◌, ◌+◌, ℕ, ◌++◌, ◌∷◌, [], List, length, None, Some, true, refl, ap, sym, ◌∙◌, subst}
 use Rattle.cj_cluster.specs.declared.event.Event.{Event}
 use Rattle.cj_cluster.specs.declared.event.Event.TheVariants.{Ended}
 use Rattle.cj_cluster.specs.History.Histories.{is_free, open_entry_of}
@@ -9,14 +9,14 @@ use Rattle.cj_book.specs.BookLogs.{BookLogState, LogFollows}
 use Rattle.cj_model.specs.Cluster.Masks.{in_mask}
 use Rattle.cj_model.specs.Cluster.Placements.{Placement}
 use Rattle.cj_book.specs.Books.{is_target_at, placement_at, with_event, BookState}
-use Rattle.cj_locked.proofs.Ending.{amount_ended, same_counted, end_follows, end_idle, end_last, end_open, end_positions, end_tokens, end_unpending, ends_since, fit_masks}
+use Rattle.cj_locked.proofs.Ending.{amount_ended, same_counted, end_follows, end_idle, end_last, end_open, end_positions, end_tokens, end_unpending, ends_as_reported, ends_since, fit_masks}
 use Rattle.cj_locked.proofs.Fresh.{fresh_event, fresh_same}
 use Rattle.cj_locked.proofs.Noting.{keeps_event, keeps_learning, still_noted}
 use Rattle.cj_locked.proofs.book.LockedBook.end.Goals as goal
 
 pub end-requires-clause-open : goal.end-requires-clause-open
 end-requires-clause-open g c =
-    end_open g.S.Store.tells g.S.Store.faults (placement_of g.J.Naming.layout) (front c.args.pass.now.seat) c.learn.new.self.state.history c.args.entry.number c.args.e.now c.args.entry.turn.share.amount c.args.entry.turn.log c.requires.holds c.learn.ensures.seen c.learn.new.self.pending
+    end_open g.S.Store.tells g.S.Store.faults (placement_of g.J.Naming.layout) (front c.args.pass.now.seat) c.learn.new.self.state.history c.args.entry.number c.args.entry.enabled c.args.e.now c.args.entry.turn.share.amount c.args.entry.turn.log c.requires.holds c.learn.ensures.seen c.learn.new.self.pending
     (c.audit.ensures.whole ∙ (c.self.invariant.counted ∙ sym (same_counted c.self.inside.book c.learn.new.self c.learn.ensures.state c.learn.ensures.pending)))
 
 pub end-requires-clause-masks : goal.end-requires-clause-masks
@@ -24,14 +24,14 @@ end-requires-clause-masks g c = fit_masks c.learn.new.self.state.history c.enabl
 
 pub end-requires-clause-positions : goal.end-requires-clause-positions
 end-requires-clause-positions g c =
-    let last = end_last g.S.Store.tells g.S.Store.faults (placement_of g.J.Naming.layout) (front c.args.pass.now.seat) c.learn.new.self.state.history c.args.entry.number c.args.e.now c.args.entry.turn.share.amount c.args.entry.turn.log c.requires.holds c.learn.ensures.seen c.learn.new.self.pending
+    let last = end_last g.S.Store.tells g.S.Store.faults (placement_of g.J.Naming.layout) (front c.args.pass.now.seat) c.learn.new.self.state.history c.args.entry.number c.args.entry.enabled c.args.e.now c.args.entry.turn.share.amount c.args.entry.turn.log c.requires.holds c.learn.ensures.seen c.learn.new.self.pending
     (c.audit.ensures.whole ∙ (c.self.invariant.counted ∙ sym (same_counted c.self.inside.book c.learn.new.self c.learn.ensures.state c.learn.ensures.pending)))
     in
     end_positions c.learn.new.self.state.history c.enabled.result c.enabled.ensures.mask c.args.tally c.settled-tally.result c.settled-tally.ensures c.args.entry.number last.0 (pass_view c.args.pass.now.seat) c.learn.new.self.view c.requires.noted c.self.inside.book.view c.learn.ensures.book
 
 pub end-requires-clause-faults : goal.end-requires-clause-faults
 end-requires-clause-faults g c =
-    let last = end_last g.S.Store.tells g.S.Store.faults (placement_of g.J.Naming.layout) (front c.args.pass.now.seat) c.learn.new.self.state.history c.args.entry.number c.args.e.now c.args.entry.turn.share.amount c.args.entry.turn.log c.requires.holds c.learn.ensures.seen c.learn.new.self.pending
+    let last = end_last g.S.Store.tells g.S.Store.faults (placement_of g.J.Naming.layout) (front c.args.pass.now.seat) c.learn.new.self.state.history c.args.entry.number c.args.entry.enabled c.args.e.now c.args.entry.turn.share.amount c.args.entry.turn.log c.requires.holds c.learn.ensures.seen c.learn.new.self.pending
     (c.audit.ensures.whole ∙ (c.self.invariant.counted ∙ sym (same_counted c.self.inside.book c.learn.new.self c.learn.ensures.state c.learn.ensures.pending)))
     in
     end_tokens c.learn.new.self.state.history c.enabled.result c.enabled.ensures.mask c.args.tally c.settled-tally.result c.settled-tally.ensures c.args.entry.number last.0 (pass_view c.args.pass.now.seat) c.learn.new.self.view c.requires.noted c.self.inside.book.view c.learn.ensures.book
@@ -42,7 +42,7 @@ invariant_of-self g c =
     let F = front c.args.pass.now.seat in
     let h = c.learn.new.self.state.history in
     let whole = c.audit.ensures.whole ∙ (c.self.invariant.counted ∙ sym (same_counted c.self.inside.book c.learn.new.self c.learn.ensures.state c.learn.ensures.pending)) in
-    let unpending = end_unpending g.S.Store.tells g.S.Store.faults l F h c.args.entry.number c.args.e.now c.args.entry.turn.share.amount c.args.entry.turn.log c.requires.holds c.learn.ensures.seen c.learn.new.self.pending whole in
+    let unpending = end_unpending g.S.Store.tells g.S.Store.faults l F h c.args.entry.number c.args.entry.enabled c.args.e.now c.args.entry.turn.share.amount c.args.entry.turn.log c.requires.holds c.learn.ensures.seen c.learn.new.self.pending whole in
     let none : c.tell.new.self.pending ≡ None = c.tell.ensures.pending ∙ (c.end.ensures.pending ∙ unpending) in
     let now : c.tell.new.self.state.history ≡ h ++ Ended c.settled-tally.result.failed c.settled-tally.result.starved ∷ [] = ap (λ (x : BookState). x.history) (c.tell.ensures.state ∙ c.end.ensures.state) in
     record {
@@ -53,11 +53,11 @@ invariant_of-self g c =
           ∙ (ap (λ n. n + 3) (c.audit.ensures.total ∙ (c.self.invariant.counted ∙ sym (same_counted c.self.inside.book c.learn.new.self c.learn.ensures.state c.learn.ensures.pending)))
           ∙ amount_ended h c.learn.new.self.pending unpending c.settled-tally.result.failed c.settled-tally.result.starved c.tell.new.self.state.history c.tell.new.self.pending now none);
       vacant = record {
-        idle = subst (λ (x : List Event). is_free x ≡ true) (sym now) (end_idle g.S.Store.tells g.S.Store.faults l F h c.args.entry.number c.args.e.now c.args.entry.turn.share.amount c.args.entry.turn.log c.requires.holds c.learn.ensures.seen c.learn.new.self.pending whole c.settled-tally.result.failed c.settled-tally.result.starved);
+        idle = subst (λ (x : List Event). is_free x ≡ true) (sym now) (end_idle g.S.Store.tells g.S.Store.faults l F h c.args.entry.number c.args.entry.enabled c.args.e.now c.args.entry.turn.share.amount c.args.entry.turn.log c.requires.holds c.learn.ensures.seen c.learn.new.self.pending whole c.settled-tally.result.failed c.settled-tally.result.starved);
         unpending = none;
         follows = subst (λ (x : BookLogState _). LogFollows g.S.Store.tells g.S.Store.faults x c.tell.new.self.state.history) (sym (c.keep.ensures ∙ (c.count.ensures.log ∙ c.audit.ensures.log)))
             (subst (λ (x : List Event). LogFollows g.S.Store.tells g.S.Store.faults c.args.entry.turn.log x) (sym now)
-            (end_follows g.S.Store.tells g.S.Store.faults l F h c.args.entry.number c.args.e.now c.args.entry.turn.share.amount c.args.entry.turn.log c.requires.holds c.learn.ensures.seen c.learn.new.self.pending whole c.settled-tally.result.failed c.settled-tally.result.starved));
+            (end_follows g.S.Store.tells g.S.Store.faults l F h c.args.entry.number c.args.entry.enabled c.args.e.now c.args.entry.turn.share.amount c.args.entry.turn.log c.requires.holds c.learn.ensures.seen c.learn.new.self.pending whole c.settled-tally.result.failed c.settled-tally.result.starved));
       };
       fresh = fresh_event g.J.Naming.tells c.learn.new.self.state c.tell.new.self.state (Ended c.settled-tally.result.failed c.settled-tally.result.starved) refl (c.tell.ensures.state ∙ c.end.ensures.state)
           (fresh_same g.J.Naming.tells c.self.inside.book.state c.learn.new.self.state c.learn.ensures.state c.self.invariant.fresh);
@@ -74,5 +74,13 @@ returns-clause-ended g c = λ tells tallied.
     let laid : placement_at c.learn.new.self.state ≡ p = ap placement_of (ap (λ (x : BookState). x.layout) c.learn.ensures.state ∙ c.self.invariant.laid) in
     let are : (b : ℕ) → in_mask c.targets.result b ≡ is_target_at p h (open_entry_of h) b = λ b. c.targets.ensures b ∙ ap (λ (q : Placement). is_target_at q h (open_entry_of h) b) laid in
     let now : front c.tell.new.p ≡ h ++ Ended c.settled-tally.result.failed c.settled-tally.result.starved ∷ [] = c.tell.ensures.told ∙ ap (λ (x : BookState). x.history) c.end.ensures.state in
-    ends_since g.S.Store.tells g.S.Store.faults p (front c.args.pass.now.seat) h c.args.entry.number c.args.e.now c.args.entry.turn.share.amount c.args.entry.turn.log c.requires.holds c.learn.ensures.seen c.learn.new.self.pending whole
+    ends_since g.S.Store.tells g.S.Store.faults p (front c.args.pass.now.seat) h c.args.entry.number c.args.entry.enabled c.args.e.now c.args.entry.turn.share.amount c.args.entry.turn.log c.requires.holds c.learn.ensures.seen c.learn.new.self.pending whole
     c.enabled.result c.enabled.ensures.mask c.args.tally c.settled-tally.result c.settled-tally.ensures c.targets.result are c.reply-reply.result c.reply-reply.ensures.answers (front c.tell.new.p) now tells tallied
+
+pub returns-clause-masks : goal.returns-clause-masks
+returns-clause-masks g c =
+    let h = c.learn.new.self.state.history in
+    let whole = c.audit.ensures.whole ∙ (c.self.invariant.counted ∙ sym (same_counted c.self.inside.book c.learn.new.self c.learn.ensures.state c.learn.ensures.pending)) in
+    let now : front c.tell.new.p ≡ h ++ Ended c.settled-tally.result.failed c.settled-tally.result.starved ∷ [] = c.tell.ensures.told ∙ ap (λ (x : BookState). x.history) c.end.ensures.state in
+    ends_as_reported g.S.Store.tells g.S.Store.faults (placement_of g.J.Naming.layout) (front c.args.pass.now.seat) h c.args.entry.number c.args.entry.enabled c.args.e.now c.args.entry.turn.share.amount c.args.entry.turn.log c.requires.holds c.learn.ensures.seen c.learn.new.self.pending whole
+    c.enabled.result c.enabled.ensures.mask c.args.tally c.settled-tally.result c.settled-tally.ensures (length g.J.Naming.layout.names) c.requires.reported (front c.tell.new.p) now

@@ -28,8 +28,8 @@ returns-clause-ok g c =
     let t = g.S.Store.tells in
     let n = g.S.Store.faults in
     let p = placement_of g.J.Naming.layout in
-    ok_weaker (λ x. HoldsEntry t n p c.finish_orphan-finished.new.self.book.state.history x.number c.args.e x.turn.share.amount x.turn.log) (λ x. HoldsEntry t n p (front c.tell-2.new.pass.seat) x.number c.args.e x.turn.share.amount x.turn.log)
-    (λ x holds. subst (λ (h : List Event). HoldsEntry t n p h x.number c.args.e x.turn.share.amount x.turn.log) (sym c.tell-2.ensures.told) holds) c.finish_orphan-finished.result c.finish_orphan-finished.ensures.ok
+    ok_weaker (λ x. HoldsEntry t n p c.finish_orphan-finished.new.self.book.state.history x.number x.enabled c.args.e x.turn.share.amount x.turn.log) (λ x. HoldsEntry t n p (front c.tell-2.new.pass.seat) x.number x.enabled c.args.e x.turn.share.amount x.turn.log)
+    (λ x holds. subst (λ (h : List Event). HoldsEntry t n p h x.number x.enabled c.args.e x.turn.share.amount x.turn.log) (sym c.tell-2.ensures.told) holds) c.finish_orphan-finished.result c.finish_orphan-finished.ensures.ok
 
 pub returns-clause-since : goal.returns-clause-since
 returns-clause-since g c =

@@ -118,8 +118,8 @@ returns-in-Ok-clause-ok g c =
     let now : f.new.self.state.history ≡ old.history ++ Sched e ∷ [] = ap (λ (x : BookState). x.history) (f.ensures.state ∙ ap (entry_finished old e) ok.0) in
     let amount : c.uncount.new.self.share.amount + 1 ≡ turn_amount old.history (Some pending.Entry) = c.uncount.ensures.amount ∙ (c.audit.ensures.amount ∙ (whole ∙ ap (turn_amount old.history) awaited)) in
     let same : c.count.new.self.log ≡ c.args.turn.log = c.count.ensures.log ∙ (c.uncount.ensures.log ∙ c.audit.ensures.log) in
-    holds_now g.S.Store.tells g.S.Store.faults (placement_of g.J.Naming.layout) c.args.self.now.book.state.history e c.args.prepared c.args.turn.share.amount c.args.turn.log a c.requires.holds old before c.self.inside.book.pending whole (c.legal.ensures.space awaited) f.new.self.state.history now c.in-Ok.number ok.1 c.count.new.self.share.amount c.count.new.self.log
-    (c.count.ensures.amount ∙ amount_scheduled old.history e c.uncount.new.self.share.amount amount) same ok.0
+    holds_now g.S.Store.tells g.S.Store.faults (placement_of g.J.Naming.layout) c.args.self.now.book.state.history e c.args.prepared c.args.turn.share.amount c.args.turn.log a c.requires.holds old before c.self.inside.book.pending whole (c.legal.ensures.space awaited) f.new.self.state.history now c.in-Ok.number ok.1 c.count.new.self.share.amount c.enabled-enabled.result c.count.new.self.log
+    (c.count.ensures.amount ∙ amount_scheduled old.history e c.uncount.new.self.share.amount amount) c.enabled-enabled.ensures.mask same ok.0
 
 pub returns-in-Ok-clause-since : goal.returns-in-Ok-clause-since
 returns-in-Ok-clause-since g c =

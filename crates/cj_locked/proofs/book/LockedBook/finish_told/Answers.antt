@@ -100,8 +100,8 @@ returns-in-Ok-clause-ok g c =
     let after : front c.finish_own-finished.new.p ≡ old.history ++ Sched e ∷ [] = c.finish_own-finished.ensures.told ∙ now in
     let amount : c.uncount.new.self.share.amount + 1 ≡ turn_amount old.history (Some pending.Entry) = c.uncount.ensures.amount ∙ (c.audit.ensures.amount ∙ (whole ∙ ap (turn_amount old.history) awaited)) in
     let same : c.count.new.self.log ≡ c.args.turn.log = c.count.ensures.log ∙ (c.uncount.ensures.log ∙ c.audit.ensures.log) in
-    holds_now g.S.Store.tells g.S.Store.faults (placement_of g.J.Naming.layout) (front c.args.pass.now.seat) c.args.e c.args.prepared c.args.turn.share.amount c.args.turn.log c.args.appended c.requires.holds c.self.inside.book.state before c.self.inside.book.pending whole (c.legal.ensures.space awaited) (front c.finish_own-finished.new.p) after c.in-Ok.number ok.1 c.count.new.self.share.amount c.count.new.self.log
-    (c.count.ensures.amount ∙ amount_scheduled old.history e c.uncount.new.self.share.amount amount) same ok.0
+    holds_now g.S.Store.tells g.S.Store.faults (placement_of g.J.Naming.layout) (front c.args.pass.now.seat) c.args.e c.args.prepared c.args.turn.share.amount c.args.turn.log c.args.appended c.requires.holds c.self.inside.book.state before c.self.inside.book.pending whole (c.legal.ensures.space awaited) (front c.finish_own-finished.new.p) after c.in-Ok.number ok.1 c.count.new.self.share.amount c.enabled-enabled.result c.count.new.self.log
+    (c.count.ensures.amount ∙ amount_scheduled old.history e c.uncount.new.self.share.amount amount) (λ b. c.enabled-enabled.ensures.mask b ∙ ap (λ (x : List Event). is_enabled x b) (sym c.finish_own-finished.ensures.told)) same ok.0
 
 pub returns-in-Ok-clause-since : goal.returns-in-Ok-clause-since
 returns-in-Ok-clause-since g c =

@@ -8,4 +8,4 @@ use Rattle.cj_locks.proofs.locks.Locks.carry.Goals as goal
 pub new-requires-clause-scheduled : goal.new-requires-clause-scheduled
 new-requires-clause-scheduled g c =
     let F = front c.args.job.pass.seat in
-    let G = front c.take-backend.new.pass.seat in prefix_get (log F) (log G) (c.args.job.number - 1) (arc_value c.args.job.entry) (log-prefix F G c.take-backend.ensures.more.seen.front) c.args.job.scheduled
+    let G = front c.take-did.new.pass.seat in prefix_get (log F) (log G) (c.args.job.number - 1) (arc_value c.args.job.entry) (log-prefix F G c.take-did.ensures.more.seen.front) c.args.job.scheduled

@@ -13,5 +13,5 @@ end-requires-clause-holds g c =
     let G = front c.take_beside-tally.new.pass.seat in
     let o = c.args.entry in
     let e = arc_value c.args.e.now in
-    subst (λ (x : Entry). HoldsEntry g.S.Store.tells g.S.Store.faults p G o.number x o.turn.share.amount o.turn.log) (sym c.deref.ensures)
-    (holds_on g.S.Store.tells g.S.Store.faults p (front c.args.pass.now.seat) G o.number e o.turn.share.amount o.turn.log c.take_beside-tally.ensures.more.seen.front c.requires.holds)
+    subst (λ (x : Entry). HoldsEntry g.S.Store.tells g.S.Store.faults p G o.number o.enabled x o.turn.share.amount o.turn.log) (sym c.deref.ensures)
+    (holds_on g.S.Store.tells g.S.Store.faults p (front c.args.pass.now.seat) G o.number o.enabled e o.turn.share.amount o.turn.log c.take_beside-tally.ensures.more.seen.front c.requires.holds)

@@ -2,6 +2,7 @@ use Rattle.cj_board.specs.Seats.{front, pass_view}
 use Rattle.cj_place.specs.Layouts.{placement_of}
 use Rattle.cj_locked.proofs.Ending.{scheduled_on}
 use Rattle.cj_pass.proofs.Passes.{noted_then}
+use Rattle.cj_locks.proofs.Reporting.{reported_next}
 use Rattle.cj_locks.proofs.locks.Locks.take_everywhere.Goals as goal
 
 pub take_at-requires-clause-scheduled : goal.take_at-requires-clause-scheduled
@@ -13,4 +14,5 @@ loop-b-preserved g c =
       more = noted_then (pass_view c.args.pass.now.seat) (pass_view c.loop-b.pass.seat) (pass_view c.take_at.new.pass.seat) c.loop-b.invariant.more c.take_at.ensures.more;
       legal = c.take_at.ensures.legal;
       tallied = c.take_at.ensures.tallied;
+      reported = reported_next c.args.enabled c.loop-b.b c.loop-b.tally c.take_at.new.tally c.loop-b.invariant.reported c.take_at.ensures.others c.take_at.ensures.reported;
     }

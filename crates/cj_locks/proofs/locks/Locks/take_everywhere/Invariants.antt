@@ -3,6 +3,7 @@ use Rattle.cj_cluster.specs.History.Legality.{IsLegal}
 use Rattle.cj_place.specs.Layouts.{placement_of}
 use Rattle.cj_pass.specs.Passes.{HasNotedMore}
 use Rattle.cj_locked_cell.specs.Taking.{HasTallied}
+use Rattle.cj_tally.specs.Tallies.{HaveReportedBelow}
 use Rattle.cj_locks.proofs.locks.Locks.take_everywhere.Given as goal
 
 abbrev pub invariant-loop-b : goal.invariant-loop-b
@@ -11,4 +12,5 @@ invariant-loop-b g l =
       more : HasNotedMore (pass_view l.fn.pass.seat) (pass_view l.pass.seat);
       legal : IsLegal (front l.pass.seat);
       tallied : HasTallied g.B.Backend.tells (placement_of g.J.Naming.layout) l.fn.n l.fn.e (pass_view l.pass.seat) l.tally;
+      reported : HaveReportedBelow l.b l.fn.enabled l.tally;
     }

@@ -1,5 +1,5 @@
 use Rattle.std.proofs.Common.{◌∙◌, sym, subst}
-use Rattle.cj_rowstore.proofs.Cited.{RowEntries, SettlesRow, none_from, settles_changed, settles_gone, settles_same}
+use Rattle.cj_rowstore.proofs.Cited.{RowEntries, SettlesRow, settles_changed, settles_gone, settles_same}
 use Rattle.cj_rowstore.proofs.row_map.RowMap.settle.Goals as goal
 
 pub returns-then-has-clause-settles : goal.returns-then-has-clause-settles
@@ -13,4 +13,4 @@ returns-then-knows-clause-settles c = settles_changed c.args.self.now c.args.key
 pub returns-clause-settles : goal.returns-clause-settles
 returns-clause-settles c =
     subst (λ (es : RowEntries). SettlesRow c.args.key c.args.row.now c.args.self.now es) (sym c.in_ok-insert.ensures.ok)
-    (settles_gone c.args.self.now c.args.key c.args.row.now c.rises.ensures (none_from _ (sym c.knows.ensures ∙ c.if-knows.false)))
+    (settles_gone c.args.self.now c.args.key c.args.row.now c.rises.ensures (sym c.knows.ensures ∙ c.if-knows.false))

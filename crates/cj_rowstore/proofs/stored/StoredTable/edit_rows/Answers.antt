@@ -1,19 +1,20 @@
-use Rattle.std.proofs.Common.{map, ap, sym, ◌∙◌, subst}
-use Rattle.cj_rowstore.proofs.Cited.{HoldsTable, KeepsKeys, None, RowEntries, Slot, anew_holds, anew_shown, slot_shown}
+use Rattle.std.proofs.Common.{map, ap, ◌∙◌}
+use Rattle.cj_rowstore.proofs.Cited.{None, Slot, edited_own, holds_again, shown_again, values_of}
+use Rattle.cj_rowstore.specs.Shared.{schema_kept}
 use Rattle.cj_rowstore.proofs.stored.StoredTable.edit_rows.Goals as goal
 
-pub invariant_of-self : goal.invariant_of-self
-invariant_of-self g c =
+pub invariant_of-self-2 : goal.invariant_of-self-2
+invariant_of-self-2 g c =
     let i = c.self.inside in
-    let f = g.R.RowEdit.edited c.args.by.now in
-    let keeps = subst (λ (s : Slot). KeepsKeys s.base.schema.key f) (sym c.self.view_is) c.requires.keys in
-    subst (λ (es : RowEntries). HoldsTable i.schema.key es i.count i.draft) (sym c.edit_rows.ensures)
-    (anew_holds i.schema i.base f i.count i.draft (ap (λ (s : Slot). s.draft) c.self.view_is ∙ c.requires.free) keeps c.self.invariant)
+    let s = schema_kept i.schema in
+    let new = edited_own s i.base c.edit_rows.new.self (g.R.RowEdit.edited c.args.by.now) i.draft c.args.self.now c.self.view_is c.requires.keys c.self.invariant c.in_ok-edit_rows.ensures.ok in
+    holds_again s i.base c.edit_rows.new.self i.draft (map (g.R.RowEdit.edited c.args.by.now) (values_of i.base)) new c.self.invariant
 
-pub returns : goal.returns
-returns g c =
+pub returns-clause-ok : goal.returns-clause-ok
+returns-clause-ok g c =
     let i = c.self.inside in
+    let s = schema_kept i.schema in
     let f = g.R.RowEdit.edited c.args.by.now in
-    ap (λ (es : RowEntries). slot_shown i.schema es i.draft) c.edit_rows.ensures
-    ∙ anew_shown i.schema i.base f i.draft (ap (λ (s : Slot). s.draft) c.self.view_is ∙ c.requires.free)
-    ∙ ap (λ (s : Slot). record { base = record { schema = s.base.schema; rows = map f s.base.rows }; draft = None }) c.self.view_is
+    let new = edited_own s i.base c.edit_rows.new.self f i.draft c.args.self.now c.self.view_is c.requires.keys c.self.invariant c.in_ok-edit_rows.ensures.ok in
+    shown_again s i.base c.edit_rows.new.self i.draft (map f (values_of i.base)) (ap (λ (t : Slot). t.draft) c.self.view_is ∙ c.requires.free) new
+    ∙ ap (λ (t : Slot). record { base = record { schema = t.base.schema; rows = map f t.base.rows }; draft = None }) c.self.view_is
