@@ -1,5 +1,5 @@
 -- What of a cluster that threads share may cross to another thread. Types are taken apart down to those for which one
--- search finds it, since a search over the whole cluster passes its limits.
+-- search finds it, since a search over the whole cluster passes its limits. T is the type of the backends' snapshots.
 use denote.RattleType.{RattleType}
 use denote.Param.Send.{IsSend, IsSync, sendable, view_send, recorded_send, struct_send, struct_sync}
 use denote.Struct.Declared.{shape}
@@ -15,6 +15,7 @@ use Rattle.cj_cluster.specs.contracts.boxed.BoxedEntry as boxed_entry
 use Rattle.cj_outside.specs.declared.store.Store as store
 use Rattle.cj_outside.specs.contracts.mem_store.MemStore as mem_store
 use Rattle.cj_backend.specs.declared.backend.Backend as backend
+use Rattle.cj_backend.specs.declared.backend.Snap as snap
 use Rattle.cj_replica.specs.contracts.cell.Cell as cell
 use Rattle.cj_pass.specs.declared.naming.Naming as naming
 use Rattle.cj_pass.specs.contracts.pass.Pass as pass
@@ -158,11 +159,11 @@ locked_book_send J S n s sj ss = view_send _ _ _ _ _ (locked_book_fields J S n s
 cell_seat_send : IsSend (cell_seat.the_field).row
 cell_seat_send = search (event_send, seat.the_send, sendable) depth 40
 
-cell_send : (B D : RattleType) (b : backend.Ghosts B.Denot) (d : store.Ghosts D.Denot) → IsSend B → IsSend D → IsSend (cell.the_field B D b d).row
-cell_send B D b d sb sd = search (cell_seat_send, heap.crosses, sendable) depth 60 fits 20000
+cell_send : (B D T : RattleType) (b : backend.Ghosts B.Denot T.Denot) (t : snap.Ghosts T.Denot) (d : store.Ghosts D.Denot) → IsSend B → IsSend D → IsSend (cell.the_field B D T b t d).row
+cell_send B D T b t d sb sd = search (cell_seat_send, heap.crosses, sendable) depth 60 fits 20000
 
-locked_cell_send : (J B : RattleType) (n : naming.Ghosts J.Denot) (b : backend.Ghosts B.Denot) → IsSend J → IsSend B → IsSend (locked_cell.the_row J B n b)
-locked_cell_send J B n b sj sb = search (cell_send, heap.crosses, sendable) depth 60 fits 20000
+locked_cell_send : (J B T : RattleType) (n : naming.Ghosts J.Denot) (b : backend.Ghosts B.Denot T.Denot) (t : snap.Ghosts T.Denot) → IsSend J → IsSend B → IsSend (locked_cell.the_row J B T n b t)
+locked_cell_send J B T n b t sj sb = search (cell_send, heap.crosses, sendable) depth 60 fits 20000
 
 board_sync : IsSync (board.the_field).row
 board_sync = search (sendable, event_send, heap.crosses, heap.send, heap.sync, table.the_field_sync) depth 40
@@ -181,8 +182,8 @@ named_board_send J n sj = search (board_send, sendable) depth 40
 pub pass_send : (J : RattleType) (n : naming.Ghosts J.Denot) → IsSend J → IsSend (pass.the_row J n)
 pass_send J n sj = search (event_send, seat.the_send, sendable) depth 40
 
-locks_sync : (J B S : RattleType) (n : naming.Ghosts J.Denot) (b : backend.Ghosts B.Denot) (s : store.Ghosts S.Denot) → IsSend J → IsSync J → IsSend B → IsSend S → IsSync (locks.the_field J B S n b s).row
-locks_sync J B S n b s sj yj sb ss = struct_sync (shape (locks.the_type J B S n b s)) (
+locks_sync : (J B S T : RattleType) (n : naming.Ghosts J.Denot) (b : backend.Ghosts B.Denot T.Denot) (t : snap.Ghosts T.Denot) (s : store.Ghosts S.Denot) → IsSend J → IsSync J → IsSend B → IsSend S → IsSync (locks.the_field J B S T n b t s).row
+locks_sync J B S T n b t s sj yj sb ss = struct_sync (shape (locks.the_type J B S T n b t s)) (
   search (heap.crosses, sendable) depth 20,
   (
     named_board_sync J n yj,
@@ -214,11 +215,11 @@ locks_sync J B S n b s sj yj sb ss = struct_sync (shape (locks.the_type J B S n 
   ),
 )
 
-pub control_sync : (J B S : RattleType) (n : naming.Ghosts J.Denot) (b : backend.Ghosts B.Denot) (s : store.Ghosts S.Denot) → IsSend J → IsSync J → IsSend B → IsSend S → IsSync (control.the_row J B S n b s)
-control_sync J B S n b s sj yj sb ss = search (locks_sync, locked_cell_send, heap.crosses, sendable) depth 60 fits 20000
+pub control_sync : (J B S T : RattleType) (n : naming.Ghosts J.Denot) (b : backend.Ghosts B.Denot T.Denot) (t : snap.Ghosts T.Denot) (s : store.Ghosts S.Denot) → IsSend J → IsSync J → IsSend B → IsSend S → IsSync (control.the_row J B S T n b t s)
+control_sync J B S T n b t s sj yj sb ss = search (locks_sync, locked_cell_send, heap.crosses, sendable) depth 60 fits 20000
 
-locks_send : (J B S : RattleType) (n : naming.Ghosts J.Denot) (b : backend.Ghosts B.Denot) (s : store.Ghosts S.Denot) → IsSend J → IsSend B → IsSend S → IsSend (locks.the_field J B S n b s).row
-locks_send J B S n b s sj sb ss = struct_send (shape (locks.the_type J B S n b s)) (
+locks_send : (J B S T : RattleType) (n : naming.Ghosts J.Denot) (b : backend.Ghosts B.Denot T.Denot) (t : snap.Ghosts T.Denot) (s : store.Ghosts S.Denot) → IsSend J → IsSend B → IsSend S → IsSend (locks.the_field J B S T n b t s).row
+locks_send J B S T n b t s sj sb ss = struct_send (shape (locks.the_type J B S T n b t s)) (
   search (heap.crosses, sendable) depth 20,
   (
     named_board_send J n sj,
@@ -250,8 +251,8 @@ locks_send J B S n b s sj sb ss = struct_send (shape (locks.the_type J B S n b s
   ),
 )
 
-pub control_send : (J B S : RattleType) (n : naming.Ghosts J.Denot) (b : backend.Ghosts B.Denot) (s : store.Ghosts S.Denot) → IsSend J → IsSend B → IsSend S → IsSend (control.the_row J B S n b s)
-control_send J B S n b s sj sb ss = search (locks_send, locked_cell_send, heap.crosses, sendable) depth 60 fits 20000
+pub control_send : (J B S T : RattleType) (n : naming.Ghosts J.Denot) (b : backend.Ghosts B.Denot T.Denot) (t : snap.Ghosts T.Denot) (s : store.Ghosts S.Denot) → IsSend J → IsSend B → IsSend S → IsSend (control.the_row J B S T n b t s)
+control_send J B S T n b t s sj sb ss = search (locks_send, locked_cell_send, heap.crosses, sendable) depth 60 fits 20000
 
 pub store_send : IsSend mem_store.the_row
 store_send = search (heap.crosses, sendable) depth 60 fits 20000

@@ -96,7 +96,11 @@ impl Gate for Meeting {
     }
 
     fn again(&self) -> Option<Meeting> {
-        made(&self.mine, &self.other, &self.missed).ok()
+        Some(Meeting {
+            mine: Arc::try_clone(&self.mine).ok()?,
+            other: Arc::try_clone(&self.other).ok()?,
+            missed: Arc::try_clone(&self.missed).ok()?,
+        })
     }
 }
 
@@ -145,7 +149,12 @@ impl Gate for Overtaken {
     }
 
     fn again(&self) -> Option<Overtaken> {
-        overtaken(&self.asked, &self.written, &self.missed).ok()
+        Some(Overtaken {
+            asked: Arc::try_clone(&self.asked).ok()?,
+            written: Arc::try_clone(&self.written).ok()?,
+            missed: Arc::try_clone(&self.missed).ok()?,
+            writes: 0,
+        })
     }
 }
 

@@ -1,5 +1,5 @@
 -- What contracts see of a backend of any kind.
-use Rattle.std.specs.Prelude.{ℕ, List}
+use Rattle.std.specs.Prelude.{ℕ, Bool, false, List}
 use Rattle.std.specs.declared.option.Option.{Option}
 use Rattle.cj_lite.specs.declared.any_backend.AnyBackend.{AnyBackend}
 use Rattle.cj_lite.specs.declared.any_backend.AnyBackend.TheVariants.{Mem, Lite}
@@ -23,3 +23,8 @@ begun_of (Lite b) = b.begun
 abbrev pub login_of : AnyBackend → Option (List ℕ)
 login_of (Mem b) = b.login
 login_of (Lite b) = b.login
+
+-- whether the backend gives snapshots
+abbrev pub snaps_of : AnyBackend → Bool
+snaps_of (Mem b) = false
+snaps_of (Lite b) = false

@@ -1,9 +1,9 @@
 //! Backends of either kind.
 
 use crate::lite_backend::LiteBackend;
-use cj_backend::{Backend, BackendError, Counts};
+use cj_backend::{Backend, BackendError, Counts, NoSnap, Snap};
 use cj_mem::MemBackend;
-use cj_model::{Asked, Create, Db, Name, Outcome, Select, Text, Write};
+use cj_model::{Asked, Create, Db, Name, NoMemory, Outcome, Select, Text, Write};
 
 /// A backend of either kind. Contracts see nothing of what it holds.
 #[derive(Drop)]
@@ -12,10 +12,32 @@ pub enum AnyBackend {
     Lite(LiteBackend),
 }
 
+/// A snapshot of a backend of either kind. Contracts see nothing of what it shows.
+#[derive(Drop)]
+pub enum AnySnap {
+    Mem(NoSnap),
+    Lite(NoSnap),
+}
+
+impl Snap for AnySnap {
+    ghost use Rattle.cj_lite.specs.LiteBackends.{untold};
+
+    ghost shows = { λ _. untold };
+
+    fn ask(&mut self, tx: u64, select: &Select) -> Result<Asked, NoMemory> {
+        match self {
+            AnySnap::Mem(snap) => snap.ask(tx, select),
+            AnySnap::Lite(snap) => snap.ask(tx, select),
+        }
+    }
+}
+
 impl Backend for AnyBackend {
     ghost use Rattle.std.specs.Prelude.{false};
-    ghost use Rattle.cj_lite.specs.AnyBackends.{asks_of, begun_of, faults_of, login_of};
+    ghost use Rattle.cj_lite.specs.AnyBackends.{asks_of, begun_of, faults_of, login_of, snaps_of};
     ghost use Rattle.cj_lite.specs.LiteBackends.{never_armed, untold};
+
+    type Snap = AnySnap;
 
     ghost tells = { false };
 
@@ -32,6 +54,8 @@ impl Backend for AnyBackend {
     ghost can_be_armed = { false };
 
     ghost arming = { λ _. never_armed };
+
+    ghost snaps = { λ b. snaps_of b };
 
     fn begin(&mut self, user: &Text, tx: u64) -> Result<(), BackendError> {
         match self {
@@ -79,6 +103,13 @@ impl Backend for AnyBackend {
         match self {
             AnyBackend::Mem(backend) => backend.ask(user, tx, select),
             AnyBackend::Lite(backend) => backend.ask(user, tx, select),
+        }
+    }
+
+    fn snapshot(&mut self, user: &Text) -> Result<Option<AnySnap>, BackendError> {
+        match self {
+            AnyBackend::Mem(backend) => Ok(backend.snapshot(user)?.map(AnySnap::Mem)),
+            AnyBackend::Lite(backend) => Ok(backend.snapshot(user)?.map(AnySnap::Lite)),
         }
     }
 

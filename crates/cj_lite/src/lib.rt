@@ -12,5 +12,5 @@
 mod any_backend;
 mod lite_backend;
 
-pub use any_backend::AnyBackend;
+pub use any_backend::{AnyBackend, AnySnap};
 pub use lite_backend::LiteBackend;

@@ -2,7 +2,7 @@
 
 ghost use Rattle.std.specs.Prelude.{◌≡◌, ◌↔◌, ◌==◌, Some, None, IfOk, IsTrue, filter, not};
 
-use cj_backend::{Backend, BackendError, Counts};
+use cj_backend::{Backend, BackendError, Counts, NoSnap};
 use cj_lite_tables::{Database, LiteError};
 use cj_model::{Asked, Create, Db, Duplicate, Name, NoMemory, Outcome, Select, Text, Write};
 use std::alloc::Global;
@@ -103,6 +103,8 @@ impl Backend for LiteBackend {
     ghost use Rattle.std.specs.Prelude.{false};
     ghost use Rattle.cj_lite.specs.LiteBackends.{never_armed, untold};
 
+    type Snap = NoSnap;
+
     ghost tells = { false };
 
     ghost told = { λ _. untold };
@@ -118,6 +120,8 @@ impl Backend for LiteBackend {
     ghost can_be_armed = { false };
 
     ghost arming = { λ _. never_armed };
+
+    ghost snaps = { λ _. false };
 
     fn begin(&mut self, user: &Text, tx: u64) -> Result<(), BackendError> {
         self.enter(user)?;
@@ -164,6 +168,10 @@ impl Backend for LiteBackend {
         self.enter(user)?;
         self.asks = self.asks.saturating_add(1);
         Ok(answer)
+    }
+
+    fn snapshot(&mut self, _user: &Text) -> Result<Option<NoSnap>, BackendError> {
+        Ok(None)
     }
 
     fn contents(&mut self) -> Result<Db, BackendError> {
