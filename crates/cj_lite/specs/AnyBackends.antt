@@ -1,5 +1,5 @@
 -- What contracts see of a backend of any kind.
-use Rattle.std.specs.Prelude.{ℕ, Bool, false, List}
+use Rattle.std.specs.Prelude.{ℕ, Bool, true, false, List}
 use Rattle.std.specs.declared.option.Option.{Option}
 use Rattle.cj_lite.specs.declared.any_backend.AnyBackend.{AnyBackend}
 use Rattle.cj_lite.specs.declared.any_backend.AnyBackend.TheVariants.{Mem, Lite}
@@ -26,5 +26,5 @@ login_of (Lite b) = b.login
 
 -- whether the backend gives snapshots
 abbrev pub snaps_of : AnyBackend → Bool
-snaps_of (Mem b) = false
+snaps_of (Mem b) = true
 snaps_of (Lite b) = false

@@ -2,7 +2,7 @@
 
 use crate::lite_backend::LiteBackend;
 use cj_backend::{Backend, BackendError, Counts, NoSnap, Snap};
-use cj_mem::MemBackend;
+use cj_mem::{MemBackend, MemSnap};
 use cj_model::{Asked, Create, Db, Name, NoMemory, Outcome, Select, Text, Write};
 
 /// A backend of either kind. Contracts see nothing of what it holds.
@@ -15,7 +15,7 @@ pub enum AnyBackend {
 /// A snapshot of a backend of either kind. Contracts see nothing of what it shows.
 #[derive(Drop)]
 pub enum AnySnap {
-    Mem(NoSnap),
+    Mem(MemSnap),
     Lite(NoSnap),
 }
 
