@@ -155,15 +155,8 @@ impl<J: Naming, B: Backend, S: Store + Drop> Locks<J, B, S> {
             return Err(CellReadError::Out);
         };
         let login = self.accounts.mapped(query.user, b);
-        cell.lock(rt).begin_read(
-            &self.board,
-            pass,
-            b,
-            login,
-            query.tx,
-            query.select,
-            owed,
-        )
+        cell.lock(rt)
+            .begin_read(&self.board, pass, b, login, query.tx, query.select, owed)
     }
 
     /// Asks backend `b`, at a position not below `owed`. A backend that gives snapshots answers by one, after the lock of
