@@ -291,6 +291,7 @@ impl Backend for MemBackend {
 
     fn snapshot(&mut self, user: &Text) -> Result<Option<MemSnap>, BackendError>
         ensures given { IfOk result (λ snap. is_some snap ≡ true) }
+        ensures shows { IfOk result (λ snap. IfSome snap (λ s. IfSome self.old.told (λ db. Some (arc_value s.tables) ≡ Some db))) }
         ensures held_shown { IfOk result (λ snap. IfSome snap (λ s. arc_value s.tables ≡ self.old.held)) }
         ensures cause { HasBackendCause 0 0 result }
         ensures arming { SpendsArming never_armed never_armed result }
