@@ -71,7 +71,10 @@ impl<
     C: Clock + Send + Sync + Drop + 'static,
     I: Source + Send + Drop + 'static,
     O: Sink + Send + Drop + 'static,
-> Task for Connection<J, B, S, C, I, O> {
+> Task for Connection<J, B, S, C, I, O>
+where
+    B::Snap: Send + 'static,
+{
     fn go<R: Wait>(self, rt: &R) {
         let Connection {
             alloc,

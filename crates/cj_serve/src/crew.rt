@@ -27,7 +27,10 @@ impl<
     J: Naming + Send + Sync + 'static,
     B: Backend + Send + Drop + 'static,
     S: Store + Send + Drop + 'static,
-> Task for Worker<J, B, S> {
+> Task for Worker<J, B, S>
+where
+    B::Snap: Send + 'static,
+{
     fn go<R: Wait>(self, rt: &R) {
         self.control.work(rt, self.b);
     }
@@ -40,6 +43,8 @@ fn start_worker<
     S: Store + Send + Drop + 'static,
     R: Threads + Wait + Copy + Drop + Send + 'static,
 >(rt: &R, spawner: &mut Spawner, worker: Worker<J, B, S>) -> bool
+where
+    B::Snap: Send + 'static,
     ensures counted { CountsFault (result ≡ false) spawner.old.refusals spawner.new.refusals }
 {
     worker.control.man(worker.b, true);
@@ -59,6 +64,8 @@ fn start_each<
     S: Store + Send + Drop + 'static,
     R: Threads + Wait + Copy + Drop + Send + 'static,
 >(rt: &R, spawner: &mut Spawner, mut shares: Vec<Arc<Control<J, B, S>, Global>>, count: u8) -> u32
+where
+    B::Snap: Send + 'static,
     requires as_many { length shares.items ≡ count }
     requires all { count ≡ length J.layout.names }
     requires few { count ≤ BACKEND_LIMIT }
@@ -92,6 +99,8 @@ pub fn start_workers<
     control: &Arc<Control<J, B, S>, Global>,
     spawner: &mut Spawner,
 ) -> Result<u32, NoMemory>
+where
+    B::Snap: Send + 'static,
     ensures missing { IfOk result (λ mask. CountsMissing spawner.old.refusals spawner.new.refusals mask (length J.layout.names)) }
     ensures none { OnErr result (spawner.new ≡ spawner.old) }
 {

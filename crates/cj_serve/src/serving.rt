@@ -41,7 +41,10 @@ impl<
     B: Backend + Send + Drop + 'static,
     S: Store + Send + Drop + 'static,
     C: Clock + Send + Sync + Drop + 'static,
-> Service<'a, J, B, S, C> {
+> Service<'a, J, B, S, C>
+where
+    B::Snap: Send + 'static,
+{
     /// Accepts one connection, and has its session served, or serves it if there is no thread for it. Memory is taken
     /// before, so that none is accepted in vain.
     fn next<R: Threads + Wait + Copy + Drop + Send + 'static, P: Port<R>>(
@@ -149,6 +152,8 @@ pub fn serve<
     seed: u64,
     connections: u64,
 ) -> ServeEnd
+where
+    B::Snap: Send + 'static,
     ensures done { (result ≡ ServeEnd.Done) ↔ ((P.accepted port.new ≡ P.accepted port.old + connections) × (connections ≢ 0)) }
     ensures cause { CountsFault (result ≡ ServeEnd.PortFault) (P.faults port.old) (P.faults port.new) }
     ensures more { HasNotedMore (pass_view pass.old.seat) (pass_view pass.new.seat) }

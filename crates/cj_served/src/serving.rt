@@ -86,6 +86,8 @@ pub(crate) fn chat_and_serve<
     seed: u64,
     connections: u64,
 ) -> (ConsoleEnd, ServeEnd)
+where
+    B::Snap: Send + 'static,
     requires legal { IsLegal (front pass.old.seat) }
     requires kept { B.tells ≡ true → D.tells ≡ true }
     requires dumps { AreRightDumps B.tells (front pass.old.seat) shelf.old.dumps }

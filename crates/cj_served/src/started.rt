@@ -74,6 +74,8 @@ fn serve_at<
     seed: u64,
     connections: u64,
 ) -> Result<(ConsoleEnd, ServeEnd), NoMemory>
+where
+    B::Snap: Send + 'static,
     requires world { AreOfStarted B.tells S.tells S.faults (board_id shared.board) (pass_board shared.pass) shared.book shared.recovery_log shared.cells.items shared.accounts shared.dumps }
     requires board { board_id shared.board ≡ J.board }
     requires layout { shared.book.state.layout ≡ J.layout }
@@ -143,6 +145,8 @@ pub fn serve_over<
     seed: u64,
     connections: u64,
 ) -> Result<(ConsoleEnd, ServeEnd), Unserved<S, D>>
+where
+    B::Snap: Send + 'static,
     requires as_many { length backends ≡ length parts.book.placement.names }
     requires registered { parts.accounts.backends ≡ length parts.book.placement.names }
     requires empty { AreEmpty B.tells (map B.told backends) }
