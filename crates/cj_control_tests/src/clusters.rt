@@ -128,6 +128,8 @@ fn play_at<J: Naming + Send + Sync, B: Backend + Drop + Send, R: Threads + Wait 
     blank: Blank,
     steps: &[Step<'_>],
 ) -> Result<ListOf<B>, NoMemory>
+where
+    B::Snap: Send,
     requires world { AreOfStarted B.tells true (λ (store : State). store.faults) (board_id shared.board) (pass_board shared.pass) shared.book shared.recovery_log shared.cells.items shared.accounts shared.dumps }
     requires board { board_id shared.board ≡ J.board }
     requires layout { shared.book.state.layout ≡ J.layout }
@@ -156,6 +158,8 @@ pub fn play<B: Backend + Drop + Send, R: Threads + Wait + Abort + Sync>(
     log_fails: Vec<u64>,
     steps: &[Step<'_>],
 ) -> Result<ListOf<B>, NoMemory>
+where
+    B::Snap: Send,
     requires empty { B.tells ≡ true → (B.told one ≡ Some []) × (B.told other ≡ Some []) }
     requires none { (B.begun one ≡ []) × (B.begun other ≡ []) }
 {

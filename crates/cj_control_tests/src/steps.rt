@@ -85,7 +85,10 @@ fn serve_both<J: Naming + Send + Sync, B: Backend + Drop + Send, R: Threads + Wa
     pass: &mut Pass<J>,
     one: &Talk<'_>,
     two: &Talk<'_>,
-) -> Result<(), NoMemory> {
+) -> Result<(), NoMemory>
+where
+    B::Snap: Send,
+{
     let mut other = control.split(pass);
     let (first, second) = thread::join(
         rt,
@@ -108,7 +111,10 @@ fn serve_with_worker<
     control: &Control<J, B, MemStore>,
     pass: &mut Pass<J>,
     talk: &Talk<'_>,
-) -> Result<(), NoMemory> {
+) -> Result<(), NoMemory>
+where
+    B::Snap: Send,
+{
     assert!(rt; 1 < control.placement().count());
     control.man(1, true);
     let (served, ()) = thread::join(
@@ -219,7 +225,10 @@ pub fn take<J: Naming + Send + Sync, B: Backend + Drop + Send, R: Threads + Wait
     control: &Control<J, B, MemStore>,
     pass: &mut Pass<J>,
     step: &Step<'_>,
-) -> Result<(), NoMemory> {
+) -> Result<(), NoMemory>
+where
+    B::Snap: Send,
+{
     match step {
         Step::Session(talk) => serve(rt, alloc, control, pass, talk)?,
         Step::Both(one, two) => serve_both(rt, alloc, control, pass, one, two)?,

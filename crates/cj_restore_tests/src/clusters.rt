@@ -141,7 +141,10 @@ fn serve<J: Naming + Send + Sync, B: Backend + Drop + Send, R: Threads + Wait + 
     pass: &mut Pass<J>,
     shelf_fails: Vec<u64>,
     steps: &[Step<'_>],
-) -> Result<(), NoMemory> {
+) -> Result<(), NoMemory>
+where
+    B::Snap: Send,
+{
     let Ok(mut caller) = control.caller(rt, pass) else {
         panic!(rt; "no session")
     };
@@ -158,6 +161,8 @@ fn play_at<J: Naming + Send + Sync, B: Backend + Drop + Send, R: Threads + Wait 
     shelf_fails: Vec<u64>,
     steps: &[Step<'_>],
 ) -> Result<(), NoMemory>
+where
+    B::Snap: Send,
     requires world { AreOfStarted B.tells true (λ (store : State). store.faults) (board_id shared.board) (pass_board shared.pass) shared.book shared.recovery_log shared.cells.items shared.accounts shared.dumps }
     requires board { board_id shared.board ≡ J.board }
     requires layout { shared.book.state.layout ≡ J.layout }
@@ -181,6 +186,8 @@ pub fn play<B: Backend + Drop + Send, R: Threads + Wait + Abort + Sync>(
     shelf_fails: Vec<u64>,
     steps: &[Step<'_>],
 ) -> Result<(), NoMemory>
+where
+    B::Snap: Send,
     requires two { length placement.names ≡ 2 }
     requires empty { B.tells ≡ true → (B.told one ≡ Some []) × (B.told other ≡ Some []) }
     requires none { (B.begun one ≡ []) × (B.begun other ≡ []) }

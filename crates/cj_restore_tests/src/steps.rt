@@ -206,6 +206,8 @@ fn come_back_beside<
     flags: &Flags,
     text: &str,
 ) -> Result<Option<u64>, NoMemory>
+where
+    B::Snap: Send,
     ensures { IsPrefix (front pass.old.seat) (front pass.new.seat) }
 {
     let mut one = control.split(pass);
@@ -230,6 +232,8 @@ fn administer<J: Naming + Send + Sync, B: Backend + Drop + Send, R: Threads + Wa
     shelf: &mut Shelf<MemStore>,
     step: &Step<'_>,
 ) -> Result<(), NoMemory>
+where
+    B::Snap: Send,
     requires right { All (IsRightDump B.tells (front pass.old.seat)) shelf.old.dumps }
     ensures right { All (IsRightDump B.tells (front pass.new.seat)) shelf.new.dumps }
 {
@@ -283,6 +287,8 @@ fn take<
     tx: u64,
     step: &Step<'_>,
 ) -> Result<u64, NoMemory>
+where
+    B::Snap: Send,
     requires right { All (IsRightDump B.tells (front pass.old.seat)) shelf.old.dumps }
     requires room { (K.state_of desk.old).requests < REQUEST_LIMIT }
     requires transaction { tx ≡ desk_tx (K.state_of desk.old) }
@@ -312,6 +318,8 @@ pub fn take_all<
     shelf: &mut Shelf<MemStore>,
     steps: &[Step<'_>],
 ) -> Result<(), NoMemory>
+where
+    B::Snap: Send,
     requires right { All (IsRightDump B.tells (front pass.old.seat)) shelf.old.dumps }
     requires unused { (K.state_of desk.old).requests ≡ 0 }
     requires closed { desk_tx (K.state_of desk.old) ≡ 0 }

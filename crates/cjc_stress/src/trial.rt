@@ -148,7 +148,10 @@ fn perform<
     B: Backend + Drop + Send + Sync,
     S: Store + Drop + Send,
     R: Threads + Wait + Clock + Sync,
->(rt: &R, stage: &Stage<'_, J, B, S>, main: &mut Worker<J>) -> Option<()> {
+>(rt: &R, stage: &Stage<'_, J, B, S>, main: &mut Worker<J>) -> Option<()>
+where
+    B::Snap: Send,
+{
     begin(rt, stage, main)?;
     let workers = workers_of(stage, &mut main.pass)?;
     let told = thread::map_vec(rt, workers, &|worker: Worker<J>| do_all(rt, stage, worker)).ok()?;
@@ -172,6 +175,8 @@ fn try_shared<
     task: Task,
     began: Instant,
 ) -> Option<Lines>
+where
+    B::Snap: Send,
     requires world { AreOfStarted B.tells S.tells S.faults (board_id shared.board) (pass_board shared.pass) shared.book shared.recovery_log shared.cells.items shared.accounts shared.dumps }
     requires board { board_id shared.board ≡ J.board }
     requires layout { shared.book.state.layout ≡ J.layout }
@@ -193,6 +198,8 @@ fn try_start<
     S: Store + Drop + Send,
     R: Threads + Wait + Clock + Sync,
 >(rt: &R, alloc: Global, task: Task, conf: Conf, log: S, backends: Backends<B>) -> Option<Lines>
+where
+    B::Snap: Send,
     requires usable { IsUsable conf }
     requires as_many { length backends ≡ length conf.placement.names }
     requires empty { AreEmpty B.tells (map B.told backends) }
