@@ -159,7 +159,7 @@ impl Gate for Overtaken {
 }
 
 /// Makes such a gate over these flags, at which no write has come.
-fn overtaken(asked: &Flag, written: &Flag, missed: &Flag) -> Result<Overtaken, Fail> {
+fn gate_over(asked: &Flag, written: &Flag, missed: &Flag) -> Result<Overtaken, Fail> {
     Ok(Overtaken {
         asked: Arc::try_clone(asked)?,
         written: Arc::try_clone(written)?,
@@ -217,8 +217,8 @@ fn an_insert_is_answered_while_a_read_waits(rt: HostRuntime) -> Result<(), Fail>
     let asked = Arc::new(alloc, AtomicU64::new(0))?;
     let written = Arc::new(alloc, AtomicU64::new(0))?;
     let missed = Arc::new(alloc, AtomicU64::new(0))?;
-    let one = gated(alloc, overtaken(&asked, &written, &missed)?);
-    let other = gated(alloc, overtaken(&asked, &written, &missed)?);
+    let one = gated(alloc, gate_over(&asked, &written, &missed)?);
+    let other = gated(alloc, gate_over(&asked, &written, &missed)?);
     let first = Talk {
         sent: &[Query(CREATE), Query("INSERT INTO t VALUES (1)")],
         replies: &[DONE_0, DONE_1],
