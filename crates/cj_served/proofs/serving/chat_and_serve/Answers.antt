@@ -37,5 +37,5 @@ beside-requires-clause-can g c κs within =
         c.requires.kept,
         subst (λ (v : SeatView). AreRightDumps g.B.Backend.tells v.front c.args.shelf.now.dumps) same c.requires.dumps,
       ),
-      (b.static-J, (b.static-B, (b.static-S, (b.static-C, (b.static-R, (b.static-B-Snap, (b.static-P-In, (b.static-P-Out, ((search sendable depth 20, search sendable depth 20, search sendable depth 20, search sendable depth 20, search sendable depth 20, search sendable depth 20), (search sendable depth 20, search sendable depth 20, search sendable depth 20, search sendable depth 20, search sendable depth 20, search sendable depth 20, search sendable depth 20, search sendable depth 20, search sendable depth 20, search sendable depth 20)))))))))),
+      (b.static-J, (b.static-B, (b.static-S, (b.static-C, (b.static-R, (b.static-B-Snap, (b.static-P-In, (b.static-P-Out, ((search sendable depth 20, search sendable depth 20, search sendable depth 20, search sendable depth 20, search sendable depth 20, search sendable depth 20), (search sendable depth 20, search sendable depth 20, search sendable depth 20, search sendable depth 20, search sendable depth 20, search sendable depth 20, search sendable depth 20, search sendable depth 20, search sendable depth 20, search sendable depth 20, search sendable depth 20)))))))))),
     )
