@@ -123,10 +123,12 @@ impl Gate for WriteMeeting {
     }
 }
 
-/// A gate at which the second write waits for a query, and a query for the third write. So the query is asked before the
-/// second write, and answered after it.
+/// A gate of two backends: at one a query waits for the third write, and at the other the second write waits for the
+/// query. So the query is asked before the second write, and answered after it.
 #[derive(Drop)]
 struct Overtaken {
+    /// Whether queries wait here, and not the second write.
+    holds_queries: bool,
     asked: Flag,
     written: Flag,
     missed: Flag,
@@ -135,14 +137,17 @@ struct Overtaken {
 
 impl Gate for Overtaken {
     fn pass(&mut self) {
-        self.asked.store(1, Ordering::SeqCst);
-        await_flag(&self.written, &self.missed);
+        if self.holds_queries {
+            self.asked.store(1, Ordering::SeqCst);
+            await_flag(&self.written, &self.missed);
+        }
     }
 
     fn pass_write(&mut self) {
         self.writes = self.writes.saturating_add(1);
         match self.writes {
             1 => {}
+            2 if self.holds_queries => {}
             2 => await_flag(&self.asked, &self.missed),
             _ => self.written.store(1, Ordering::SeqCst),
         }
@@ -150,6 +155,7 @@ impl Gate for Overtaken {
 
     fn again(&self) -> Option<Overtaken> {
         Some(Overtaken {
+            holds_queries: self.holds_queries,
             asked: Arc::try_clone(&self.asked).ok()?,
             written: Arc::try_clone(&self.written).ok()?,
             missed: Arc::try_clone(&self.missed).ok()?,
@@ -159,8 +165,14 @@ impl Gate for Overtaken {
 }
 
 /// Makes such a gate over these flags, at which no write has come.
-fn gate_over(asked: &Flag, written: &Flag, missed: &Flag) -> Result<Overtaken, Fail> {
+fn gate_over(
+    holds_queries: bool,
+    asked: &Flag,
+    written: &Flag,
+    missed: &Flag,
+) -> Result<Overtaken, Fail> {
     Ok(Overtaken {
+        holds_queries,
         asked: Arc::try_clone(asked)?,
         written: Arc::try_clone(written)?,
         missed: Arc::try_clone(missed)?,
@@ -210,18 +222,23 @@ fn a_read_is_answered_while_another_is_asked(rt: HostRuntime) -> Result<(), Fail
     Ok(())
 }
 
-/// The query waits at its gate while another session's INSERT is answered, and then has the rows before that.
+/// The query waits at its gate while another session's INSERT is answered, and then has the rows before that. It is the
+/// second query, so it goes to the second backend.
 #[test]
 fn an_insert_is_answered_while_a_read_waits(rt: HostRuntime) -> Result<(), Fail> {
     let alloc = rt.alloc();
     let asked = Arc::new(alloc, AtomicU64::new(0))?;
     let written = Arc::new(alloc, AtomicU64::new(0))?;
     let missed = Arc::new(alloc, AtomicU64::new(0))?;
-    let one = gated(alloc, gate_over(&asked, &written, &missed)?);
-    let other = gated(alloc, gate_over(&asked, &written, &missed)?);
+    let one = gated(alloc, gate_over(false, &asked, &written, &missed)?);
+    let other = gated(alloc, gate_over(true, &asked, &written, &missed)?);
     let first = Talk {
-        sent: &[Query(CREATE), Query("INSERT INTO t VALUES (1)")],
-        replies: &[DONE_0, DONE_1],
+        sent: &[
+            Query(CREATE),
+            Query("INSERT INTO t VALUES (1)"),
+            Query("SELECT k FROM t"),
+        ],
+        replies: &[DONE_0, DONE_1, K_1],
     };
     let read = Talk {
         sent: &[Query("SELECT k FROM t ORDER BY k")],
