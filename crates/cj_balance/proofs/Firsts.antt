@@ -1,13 +1,17 @@
 -- The first of the candidates, one number after the other.
-use Rattle.std.proofs.Common.{◌≡◌, ℕ, ◌+◌, ◌^◌, ◌==◌, ◌<◌, ◌≤◌, Bool, true, false, List, ap, ⊎_elim, arith, below_more}
+use Rattle.std.proofs.Common.{◌≡◌, ℕ, ◌+◌, ◌-◌, ◌^◌, ◌/◌, ◌%◌, ◌==◌, ◌<◌, ◌≤◌, Bool, true, false, List, ap, sym, ◌∙◌, ⊎_elim, arith, below_more}
+use Rattle.std.specs.declared.option.Option.{Option}
+use Rattle.std.specs.declared.option.Option.TheVariants.{None, Some}
+use Rattle.std.specs.Int.{bit_at}
 use Rattle.std.proofs.lemmas.Bool.{cases_Bool, cases_lt, both_ways}
-use Rattle.std.proofs.lemmas.Nat.Bits.{bit_at_above}
+use Rattle.std.proofs.lemmas.Nat.{shr-shr}
+use Rattle.std.proofs.lemmas.Nat.Bits.{bit_at_above, bit_at-zero}
 use Rattle.cj_model.specs.declared.policy.Policy.{Policy}
 use Rattle.cj_model.specs.Cluster.Masks.{in_mask}
 use Rattle.cj_model.specs.Cluster.Balancing.{BalanceState, IsFirst, is_ahead}
 use Rattle.cj_model.proofs.BalanceLaws.{ahead_one_way, ahead_chain, candidates_below}
 use Rattle.cj_model.proofs.Masks.{no_bit}
-use Rattle.cj_balance.specs.Kept.{AreWeights, IsFirstBelow}
+use Rattle.cj_balance.specs.Kept.{AreWeights, FirstBelow, IsFirstBelow}
 
 -- where number i is a candidate and ahead of the first of those below it, it is ahead of all of them
 ahead_of_all : (policy : Policy) (weights : List ℕ) (s : BalanceState) (candidates i b : ℕ) → AreWeights weights → i ≤ 16 → IsFirstBelow (is_ahead policy weights s) candidates i b → is_ahead policy weights s i b ≡ true → (k : ℕ) → k < i → in_mask candidates k ≡ true → is_ahead policy weights s i k ≡ true
@@ -37,6 +41,33 @@ first_taken policy weights s candidates i b ok lt here f h =
       none_ahead = below_more (λ k. in_mask candidates k ≡ true → is_ahead policy weights s k i ≡ false) i (λ k l y. ahead_one_way policy weights s i k (all k l y)) (λ _. not_ahead_of_itself policy weights s i);
       lower = all;
     }
+
+-- a mask that is 0 once shifted by i has no bit from i on
+none_behind : (candidates i k : ℕ) → candidates / 2 ^ i ≡ 0 → i ≤ k → in_mask candidates k ≡ false
+none_behind candidates i k none le =
+    ap (λ n. n == 1)
+    (ap (bit_at candidates) (omega (arith, le))
+    ∙ (ap (λ n. n % 2) (sym (shr-shr candidates i (k - i)))
+    ∙ (ap (λ n. bit_at n (k - i)) none
+    ∙ bit_at-zero (k - i))))
+
+-- where the mask has none from i on, the first of those below i is the first of those below 16
+pub first_of_few : (ahead : ℕ → ℕ → Bool) (candidates i : ℕ) (first : Option ℕ) → candidates / 2 ^ i ≡ 0 → i ≤ 16 → FirstBelow ahead candidates i first → FirstBelow ahead candidates 16 first
+first_of_few ahead candidates i None few le none = λ k lt.
+    ⊎_elim
+    (λ (l : k < i). none k l)
+    (λ (g : i ≤ k). none_behind candidates i k few g)
+    (cases_lt k i)
+first_of_few ahead candidates i (Some b) few le f = record {
+  below = let below = f.below in omega (arith, le, below);
+  candidate = f.candidate;
+  none_ahead = λ k lt here.
+      ⊎_elim
+      (λ (l : k < i). f.none_ahead k l here)
+      (λ (g : i ≤ k). absurd (both_ways (in_mask candidates k) (none_behind candidates i k few g) here))
+      (cases_lt k i);
+  lower = f.lower;
+}
 
 -- the first of those below 16 is the first of all
 pub first_of_all : (ahead : ℕ → ℕ → Bool) (candidates b : ℕ) → candidates < 2 ^ 16 → IsFirstBelow ahead candidates 16 b → IsFirst ahead candidates b

@@ -163,6 +163,9 @@ impl Balancer {
     {
         let mut first = None;
         for b in 0..BACKEND_LIMIT {
+            if candidates >> b == 0 {
+                return first;
+            }
             first = self.first_with(candidates, first, b);
         }
         first
@@ -188,6 +191,13 @@ impl Balancer {
         let b = self.first(candidates)?;
         self.record_pick(b);
         Some(b)
+    }
+
+    /// By what the balancer picks. Only `LeastPending` looks at the reads that are pending.
+    pub fn policy(&self) -> Policy
+        ensures { result ≡ self.now.policy }
+    {
+        self.policy
     }
 
     /// How many reads are pending at backend `b`.

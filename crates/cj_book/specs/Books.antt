@@ -4,6 +4,8 @@ use Rattle.std.specs.List.{list_any}
 use Rattle.std.specs.declared.option.Option.{Option}
 use Rattle.std.specs.declared.option.Option.TheVariants.{None, Some}
 use Rattle.cj_model.specs.declared.limits.TheConstants.{SESSION_LIMIT, SESSION_NUMBER_LIMIT}
+use Rattle.cj_model.specs.declared.policy.Policy.{Policy}
+use Rattle.cj_model.specs.declared.policy.Policy.TheVariants.{RoundRobin, Weighted, LeastPending}
 use Rattle.cj_model.specs.declared.request.Act.{Act}
 use Rattle.cj_model.specs.declared.request.Entry.{Entry}
 use Rattle.cj_cluster.specs.declared.event.Event.{Event}
@@ -153,13 +155,19 @@ is_target b e k = is_target_at (placement_at b) b.history e k
 
 -- ---- reads
 
--- one more read is pending at backend b, up to the greatest number of 32 bits
-abbrev pub with_pending_read : List ℕ → ℕ → List ℕ
-with_pending_read pending b = if slice_index pending b + 1 == 2 ^ 32 then pending else one_more pending b
+-- the counts with one more at backend b, up to the greatest number of 32 bits
+abbrev pub one_more_within : List ℕ → ℕ → List ℕ
+one_more_within counts b = if slice_index counts b + 1 == 2 ^ 32 then counts else one_more counts b
+
+-- how many reads are pending at each backend, after one began at b: only the least-pending policy counts that
+abbrev pub with_pending_read : Policy → List ℕ → ℕ → List ℕ
+with_pending_read RoundRobin pending b = pending
+with_pending_read Weighted pending b = pending
+with_pending_read LeastPending pending b = one_more_within pending b
 
 -- backend b was picked, and a read began there
 abbrev pub read_at : Balance → ℕ → Balance
-read_at balance b = record balance { standing = record (picked balance.policy balance.standing b) { pending = with_pending_read balance.standing.pending b } }
+read_at balance b = record balance { standing = record (picked balance.policy balance.standing b) { pending = with_pending_read balance.policy balance.standing.pending b } }
 
 -- the balancer picks b of the candidates, and a read begins there
 pub record PicksOf (old new : BookState) (candidates b : ℕ) : Type 0 where

@@ -1,6 +1,6 @@
 //! Calls that change a book and bring no event: sessions, the reads that the balancer counts, and the cache.
 
-ghost use Rattle.std.specs.Prelude.{◌≡◌, ◌≢◌, ◌↔◌, ◌+◌, ◌^◌, ◌<◌, ◌≤◌, true, length, Contains, slice_index, IsNone, IfSome, option_map, IfOk, IfErr, OnOk, OnErr, IsErr, Ok};
+ghost use Rattle.std.specs.Prelude.{◌≡◌, ◌≢◌, ◌↔◌, ◌+◌, ◌^◌, ◌<◌, ◌≤◌, true, length, Contains, IsNone, IfSome, option_map, IfOk, IfErr, OnOk, OnErr, IsErr, Ok};
 ghost use Rattle.cj_model.specs.Cluster.Balancing.{one_less};
 ghost use Rattle.cj_cache.specs.Kept.{kept_parts, shared_parts};
 ghost use Rattle.cj_model.specs.Cluster.Caching.{after_keep, after_look, cached_entry, has_answer};
@@ -15,16 +15,22 @@ use crate::error::SessionsFull;
 use crate::touching::is_touched_behind;
 use cj_balance::Balancer;
 use cj_cache::SharedAnswer;
-use cj_model::{Answer, BACKEND_LIMIT, NoMemory, SESSION_LIMIT, SESSION_NUMBER_LIMIT, Select};
+use cj_model::{
+    Answer, BACKEND_LIMIT, NoMemory, Policy, SESSION_LIMIT, SESSION_NUMBER_LIMIT, Select,
+};
 
-/// Counts one more pending read at backend `b`, up to the greatest `u32`.
+/// Counts one more pending read at backend `b`, up to the greatest `u32`, if the policy looks at that.
 fn begin_read(balancer: &mut Balancer, b: u8)
     requires { b < BACKEND_LIMIT }
-    ensures one_more { balancer.new ≡ record balancer.old { standing = record balancer.old.standing { pending = books.with_pending_read balancer.old.standing.pending b } } }
-    ensures pending { 0 < slice_index balancer.new.standing.pending b }
+    ensures { balancer.new ≡ record balancer.old { standing = record balancer.old.standing { pending = books.with_pending_read balancer.old.policy balancer.old.standing.pending b } } }
 {
-    if balancer.pending(b) < u32::MAX {
-        balancer.began(b);
+    match balancer.policy() {
+        Policy::RoundRobin | Policy::Weighted => {}
+        Policy::LeastPending => {
+            if balancer.pending(b) < u32::MAX {
+                balancer.began(b);
+            }
+        }
     }
 }
 
@@ -62,18 +68,24 @@ impl Book {
     /// Picks the backend for the next read among the candidates, by the balancer's policy.
     /// `candidates` is a mask of backends below `BACKEND_LIMIT`.
     /// None if and only if the mask is 0, and then nothing changes.
-    /// The read is pending at the backend until `ended` is called.
+    /// Where the policy counts reads, this one is pending at the backend until `ended` is called.
     pub fn pick(&mut self, candidates: u32) -> Option<u8>
         requires { candidates < 2 ^ BACKEND_LIMIT }
         ensures none { IsNone result ↔ (candidates ≡ 0) }
         ensures same { IsNone result → self.new.state ≡ self.old.state }
         ensures some { IfSome result (λ b. PicksOf self.old.state self.new.state candidates b) }
-        ensures pending { IfSome result (λ b. 0 < slice_index self.new.state.balance.standing.pending b) }
         ensures seat { HasSameSeat self.old self.new }
     {
         let b = self.balancer.pick(candidates)?;
         begin_read(&mut self.balancer, b);
         Some(b)
+    }
+
+    /// Returns whether the balancer's policy counts the reads that are pending. Else `ended` changes nothing.
+    pub fn counts_reads(&self) -> bool
+        ensures { (result ≡ true) ↔ (self.now.state.balance.policy ≡ Policy.LeastPending) }
+    {
+        matches!(self.balancer.policy(), Policy::LeastPending)
     }
 
     /// Notes that a read ended at backend `b`. Nothing changes if no read is pending there.

@@ -180,6 +180,7 @@ impl<J: Naming, B: Backend + Drop, S: Store + Drop> Control<J, B, S> {
             alloc,
             board,
             keeps: !book.keeps_none(),
+            counts_reads: book.counts_reads(),
             book: Mutex::new(book),
             turn_back: Condvar::new(),
             settled: Condvar::new(),

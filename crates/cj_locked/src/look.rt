@@ -15,7 +15,7 @@ ghost use Rattle.cj_pass.specs.Passes.{HasNotedMore};
 
 use crate::book::{LockedBook, without};
 use cj_book::SharedAnswer;
-use cj_model::{Answer, BACKEND_LIMIT, Cached, Entry, Name, NoMemory, Select};
+use cj_model::{Answer, BACKEND_LIMIT, Cached, Entry, Name, NoMemory, Policy, Select};
 use cj_outside::Store;
 use cj_pass::{NamedBoard, Naming, Pass};
 use std::alloc::Global;
@@ -26,8 +26,8 @@ use std::sync::Arc;
 pub enum Look {
     /// The cache keeps the answer. It is right at this position of the log.
     Kept(Arc<Answer, Global>, u64),
-    /// This backend is to be asked, at a position not below the number. A read is pending there until `end_read` or
-    /// `fail_read`.
+    /// This backend is to be asked, at a position not below the number. Where the policy counts reads, one is pending
+    /// there until `end_read` or `fail_read`.
     Ask(u8, u64),
     /// Each backend of this mask serves the query and was tried.
     Tried(u32),
@@ -268,6 +268,13 @@ impl<J: Naming, S: Store + Drop> LockedBook<J, S> {
         ensures { result ≡ true → (e : Cached) → after_keep e self.now.book.state.cache ≡ self.now.book.state.cache }
     {
         self.book.keeps_none()
+    }
+
+    /// Returns whether the balancer's policy counts the reads that are pending. Else `end_read` changes nothing.
+    pub fn counts_reads(&self) -> bool
+        ensures { (result ≡ true) ↔ (self.now.book.state.balance.policy ≡ Policy.LeastPending) }
+    {
+        self.book.counts_reads()
     }
 
     /// Returns the hits and the misses that the cache has counted.

@@ -50,6 +50,8 @@ pub struct Locks<J: Naming, B: Backend, S: Store> {
     pub accounts: Accounts,
     /// Whether the result cache keeps answers.
     pub keeps: bool,
+    /// Whether the balancer's policy counts the reads that are pending.
+    pub counts_reads: bool,
     ghost laid: { placement ≡ J.layout },
     ghost registered: { accounts.backends ≡ length placement.names },
     ghost told: { J.tells ≡ B.tells },

@@ -185,11 +185,14 @@ impl<J: Naming, B: Backend, S: Store + Drop> Locks<J, B, S> {
         }
     }
 
-    /// Notes that a read that gave no answer has ended at backend `b`.
+    /// Notes that a read has ended at backend `b`. Where the policy doesn't count reads, nothing is to be noted, and no
+    /// lock is taken.
     fn end_read<R: Wait>(&self, rt: &R, b: u8)
         requires below { b < BACKEND_LIMIT }
     {
-        self.book.lock(rt).end_read(b);
+        if self.counts_reads {
+            self.book.lock(rt).end_read(b);
+        }
     }
 
     /// Copies the query and its answer for the cache, if that keeps answers and this is one that it may keep. None
