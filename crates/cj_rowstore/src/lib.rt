@@ -15,7 +15,6 @@ mod row_map;
 mod row_predicate;
 mod scan;
 mod scan_back;
-mod shared;
 mod stored;
 mod stored_row;
 mod version;
