@@ -265,9 +265,13 @@ impl Backend for MemBackend {
         ensures asks { self.new.asks ≡ self.old.asks }
     {
         self.enter_change(user)?;
-        self.tables.abort(tx);
-        remove(&mut self.begun, tx);
-        Ok(())
+        match self.tables.abort(tx) {
+            Ok(()) => {
+                remove(&mut self.begun, tx);
+                Ok(())
+            }
+            Err(_) => Err(self.starve()),
+        }
     }
 
     fn ask(&mut self, user: &Text, tx: u64, query: &Select) -> Result<Asked, BackendError>
@@ -299,7 +303,7 @@ impl Backend for MemBackend {
         ensures asks { self.new.asks ≡ asks_after_snapshot self.old.asks result }
         ensures same { self.new ≡ record self.old { login = self.new.login; asks = self.new.asks } }
     {
-        let tables = self.tables.snapshot()?;
+        let tables = self.tables.snapshot(self.alloc)?;
         self.enter(user)?;
         self.asks = self.asks.saturating_add(1);
         Ok(Some(MemSnap::of(self.alloc, tables)))
@@ -330,7 +334,7 @@ impl Backend for MemBackend {
     {
         match restored(self.alloc, db) {
             Ok((tables, begun)) => {
-                self.tables = SharedTables::of(self.alloc, tables);
+                self.tables = SharedTables::of(tables);
                 self.begun = begun;
                 self.known = true;
                 Ok(())

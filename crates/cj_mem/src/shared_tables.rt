@@ -15,7 +15,6 @@ use std::sync::Arc;
 /// each, and a change finds shared only what a snapshot shows that is still held.
 #[derive(Drop)]
 pub(crate) struct SharedTables {
-    alloc: Global,
     tables: Tables,
     /// A snapshot of these tables; none once they changed.
     shown: Option<Arc<Tables, Global>>,
@@ -38,15 +37,14 @@ impl SharedTables {
     pub fn new(alloc: Global) -> SharedTables
         ensures { result ≡ [] }
     {
-        SharedTables::of(alloc, Tables::new(alloc))
+        SharedTables::of(Tables::new(alloc))
     }
 
     /// Takes a database, of which no snapshot was given.
-    pub fn of(alloc: Global, tables: Tables) -> SharedTables
+    pub fn of(tables: Tables) -> SharedTables
         ensures { result ≡ tables }
     {
         SharedTables {
-            alloc,
             tables,
             shown: None,
         }
@@ -60,14 +58,14 @@ impl SharedTables {
     }
 
     /// A snapshot of the database, drafts included. Fails only with `NoMemory`.
-    pub fn snapshot(&mut self) -> Result<Arc<Tables, Global>, NoMemory>
+    pub fn snapshot(&mut self, alloc: Global) -> Result<Arc<Tables, Global>, NoMemory>
         ensures shown { IfOk result (λ snap. arc_value snap ≡ self.old) }
         ensures same { self.new ≡ self.old }
     {
         if let Some(shown) = &self.shown {
             return Ok(Arc::try_clone(shown)?);
         }
-        let shown = Arc::new(self.alloc, self.tables.snapshot()?)?;
+        let shown = Arc::new(alloc, self.tables.snapshot()?)?;
         let again = Arc::try_clone(&shown)?;
         self.shown = Some(shown);
         Ok(again)
@@ -109,10 +107,11 @@ impl SharedTables {
     }
 
     /// Ends transaction `tx` without its changes, as `Tables` does.
-    pub fn abort(&mut self, tx: u64)
-        ensures { self.new ≡ map (aborted tx) self.old }
+    pub fn abort(&mut self, tx: u64) -> Result<(), NoMemory>
+        ensures ok { OnOk result (self.new ≡ map (aborted tx) self.old) }
+        ensures err { OnErr result (self.new ≡ self.old) }
     {
         self.shown = None;
-        self.tables.abort(tx);
+        self.tables.abort(tx)
     }
 }

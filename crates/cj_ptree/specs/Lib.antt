@@ -6,3 +6,6 @@ pub mod Branches
 pub mod Trees
 pub mod Walks
 pub mod Retained
+pub mod Kept
+pub mod KeptLends
+pub mod SharedLends

@@ -8,6 +8,8 @@
 //! level to level (`link`). A node that trees share is copied by the first change of one of them, and one that a tree
 //! has alone is changed in place. `branch` has both upper levels, `leaf` the lowest, and `walk` the cursors. Read
 //! `specs/Pairs` and `specs/Parts` first, then `proofs/ZoneLaws`.
+//!
+//! `Shared` shares a single value in the same way.
 #![tactic(auto)]
 
 mod added;
@@ -17,9 +19,11 @@ mod edit;
 mod leaf;
 mod link;
 mod node;
+mod shared;
 mod tree;
 mod walk;
 
 pub use edit::Edit;
+pub use shared::Shared;
 pub use tree::PTree;
 pub use walk::PIter;

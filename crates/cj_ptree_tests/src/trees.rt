@@ -2,38 +2,15 @@
 
 ghost use Rattle.std.specs.Prelude.{nat_eq, not};
 
-use cj_model::{Duplicate, NoMemory};
+use crate::counted::Counted;
+use cj_model::NoMemory;
 use cj_ptree::{Edit, PIter, PTree};
 use std::alloc::Global;
-use std::marker::Model;
 use std::sync::Arc;
 use std::test::Fail;
 
 /// How many keys the large trees have: enough for several twigs.
 const KEYS: u64 = 5000;
-
-/// A value that counts how many copies of it there are.
-#[derive(Drop)]
-struct Counted {
-    arc: Arc<u64>,
-}
-
-impl Model for Counted {
-    ghost use Rattle.std.specs.Prelude.{ℕ};
-    ghost use Rattle.std.specs.Arc.{arc_value};
-
-    ghost Value = { ℕ };
-
-    ghost view = { λ counted. arc_value counted.arc };
-}
-
-impl Duplicate for Counted {
-    fn copy(&self, _alloc: Global) -> Result<Counted, NoMemory> {
-        Ok(Counted {
-            arc: Arc::try_clone(&self.arc)?,
-        })
-    }
-}
 
 /// Edits values to 0, and leaves one out.
 struct ZeroAllBut {

@@ -249,13 +249,13 @@ module _ {K : Type 0} (R : K → K → Ordering) where
     pick_test true w c e = refl
     pick_test false w c e = refl
 
-    -- a change noted in a draft is that change of what the draft shows
+    -- a change put among others is made in what the others leave
     pub note_change : {X : Type 0} (es : List (K × X)) (cs : List (K × Option X)) (k : K) (w : Option X) → PairsRise es → PairsRise cs → merged R es (insert_entry R cs k w) ≡ with_change R (merged R es cs) k w
     note_change es cs k w u v = same_entries _ _ (rise_merged es _ u (rise_insert cs k w v)) (rise_changed _ k w (rise_merged es cs u v))
         (λ q. at_merged q es _ u (rise_insert cs k w v) ∙ ap (λ z. pick z (at q es)) (at_insert q cs k w) ∙ pick_test (is_at (R q) k) w (at q cs) (at q es)
         ∙ ap (λ z. cond (is_at (R q) k) w z) (sym (at_merged q es cs u v)) ∙ sym (at_changed q (merged R es cs) k w (rise_merged es cs u v)))
 
-    -- the first change made in the base leaves what the draft shows
+    -- the first of the changes may be made before the rest
     pub commit_change : {X : Type 0} (es : List (K × X)) (c : K × Option X) (cs : List (K × Option X)) → PairsRise es → PairsRise (c ∷ cs) → merged R (with_change R es c.0 c.1) cs ≡ merged R es (c ∷ cs)
     commit_change es c cs u v = same_entries _ _ (rise_merged _ cs (rise_changed es c.0 c.1 u) v.1) (rise_merged es (c ∷ cs) u v)
         (λ q. at_merged q _ cs (rise_changed es c.0 c.1 u) v.1 ∙ ap (pick (at q cs)) (at_changed q es c.0 c.1 u) ∙ ⊎_elim

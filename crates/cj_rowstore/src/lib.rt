@@ -1,8 +1,8 @@
 //! One table as a persistent ordered map of rows by key, with the uncommitted version of one transaction (its draft).
 //!
 //! Contracts see a `StoredTable` as a slot of the vocabulary, and a `View` as the table that one transaction
-//! sees. A scan is seen as the rows that are left, in rising or falling key. `commit` and `abort` can't fail. If
-//! another call runs out of memory, every transaction sees what it saw before. A snapshot copies no row.
+//! sees. A scan is seen as the rows that are left, in rising or falling key. If a call runs out of memory, every
+//! transaction sees what it saw before. A copy of a table copies no row.
 //!
 //! `version` has the rows at one time, in a map of `cj_ptree`, and `row_map` has changes of them. The layout of rows is
 //! in `stored_row`, walks are in `scan` and `scan_back`. A new way to edit or test rows in place implements `RowEdit`
@@ -15,7 +15,6 @@ mod row_map;
 mod row_predicate;
 mod scan;
 mod scan_back;
-mod shared;
 mod stored;
 mod stored_row;
 mod version;

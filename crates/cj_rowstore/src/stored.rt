@@ -5,7 +5,6 @@ ghost use Rattle.cj_model.specs.Database.Steps.{aborted, committed, seen};
 ghost use Rattle.cj_model.specs.Database.Steps as steps;
 ghost use Rattle.cj_rowstore.specs.Lookups.{row_with_key, rows_from};
 ghost use Rattle.cj_rowstore.specs.RowEntries.{keyed};
-ghost use Rattle.cj_rowstore.specs.Shared.{schema_kept};
 ghost use Rattle.cj_rowstore.specs.Stored.{IsChangeOf, KeepsKeys, changed_slot, rows_after, shown_draft};
 
 use crate::row_edit::RowEdit;
@@ -13,9 +12,9 @@ use crate::row_map::RowMap;
 use crate::row_predicate::RowTest;
 use crate::scan::Scan;
 use crate::scan_back::ScanBack;
-use crate::shared::SharedSchema;
 use crate::version::Version;
-use cj_model::{NoMemory, Schema, Value};
+use cj_model::{Duplicate, NoMemory, Schema, Value};
+use cj_ptree::Shared;
 use std::alloc::Global;
 use std::marker::Model;
 
@@ -27,26 +26,24 @@ pub struct StoredDraft {
     version: Version,
 }
 
-/// A table in memory, with at most one draft. Contracts see it as a slot. A commit makes the draft's version the base,
-/// and an abort drops it, so neither allocates.
+/// A table in memory, with at most one draft. Contracts see it as a slot. A copy shares all rows with it, so it costs a
+/// few counts.
 #[derive(Drop)]
 pub struct StoredTable {
-    schema: SharedSchema,
+    schema: Shared<Schema>,
     base: Version,
     draft: Option<StoredDraft>,
-    alloc: Global,
 }
 
 impl Model for StoredTable {
     ghost use Rattle.cj_model.specs.declared.database.Slot.{Slot};
-    ghost use Rattle.cj_rowstore.specs.Shared.{schema_kept};
     ghost use Rattle.cj_rowstore.specs.Stored.{HoldsTable, slot_shown};
 
     ghost Value = { Slot };
 
-    ghost view = { λ table. slot_shown (schema_kept table.schema) table.base table.draft };
+    ghost view = { λ table. slot_shown table.schema table.base table.draft };
 
-    ghost invariant = { λ table. HoldsTable (schema_kept table.schema).key table.base table.draft };
+    ghost invariant = { λ table. HoldsTable table.schema.key table.base table.draft };
 }
 
 fn draft_again(draft: &Option<StoredDraft>) -> Result<Option<StoredDraft>, NoMemory>
@@ -61,16 +58,26 @@ fn draft_again(draft: &Option<StoredDraft>) -> Result<Option<StoredDraft>, NoMem
     }
 }
 
+impl Duplicate for StoredTable {
+    /// The same table again, with its draft. No row is copied.
+    fn copy(&self, alloc: Global) -> Result<StoredTable, NoMemory> {
+        Ok(StoredTable {
+            schema: self.schema.again(alloc)?,
+            base: self.base.snapshot()?,
+            draft: draft_again(&self.draft)?,
+        })
+    }
+}
+
 impl StoredTable {
     /// A table without rows and without a draft.
     pub fn new(alloc: Global, schema: Schema) -> StoredTable
         ensures { result ≡ record { base = record { schema = schema; rows = [] }; draft = None } }
     {
         StoredTable {
-            schema: SharedSchema::of(alloc, schema),
+            schema: Shared::of(alloc, schema),
             base: Version::new(alloc),
             draft: None,
-            alloc,
         }
     }
 
@@ -85,22 +92,9 @@ impl StoredTable {
         ensures { IfOk result (λ table. table ≡ record { base = record { schema = schema; rows = rows_after schema.key [] changes }; draft = None }) }
     {
         Ok(StoredTable {
-            schema: SharedSchema::of(alloc, schema),
+            schema: Shared::of(alloc, schema),
             base: Version::new(alloc).changed(changes, count)?,
             draft: None,
-            alloc,
-        })
-    }
-
-    /// The same table again, with its draft. It takes a few counts: no row is copied.
-    pub fn snapshot(&self) -> Result<StoredTable, NoMemory>
-        ensures { IfOk result (λ copy. copy ≡ self.now) }
-    {
-        Ok(StoredTable {
-            schema: self.schema.again(self.alloc)?,
-            base: self.base.snapshot()?,
-            draft: draft_again(&self.draft)?,
-            alloc: self.alloc,
         })
     }
 
@@ -108,7 +102,7 @@ impl StoredTable {
     pub fn schema(&self) -> &Schema
         ensures { result.now ≡ self.now.base.schema }
     {
-        self.schema.schema()
+        self.schema.get()
     }
 
     /// The transaction that has a draft of the table; none without a draft.
@@ -182,33 +176,35 @@ impl StoredTable {
         Ok(())
     }
 
-    /// Commits the draft of transaction `tx`, without allocation. Nothing changes if `tx` has no draft.
-    pub fn commit(&mut self, tx: u64)
-        ensures { self.new ≡ committed tx self.old }
+    /// This table after the commit of transaction `tx`, whose draft becomes the base. The same table again if `tx` has no
+    /// draft. No row is copied.
+    pub fn committed(&self, alloc: Global, tx: u64) -> Result<StoredTable, NoMemory>
+        ensures { IfOk result (λ table. table ≡ committed tx self.now) }
     {
-        match self.draft.take() {
-            None => {}
-            Some(draft) => {
-                if draft.tx == tx {
-                    self.base = draft.version;
-                } else {
-                    self.draft = Some(draft);
-                }
-            }
+        match &self.draft {
+            Some(draft) if draft.tx == tx => Ok(StoredTable {
+                schema: self.schema.again(alloc)?,
+                base: draft.version.snapshot()?,
+                draft: None,
+            }),
+            Some(_) => self.copy(alloc),
+            None => self.copy(alloc),
         }
     }
 
-    /// Drops the draft of transaction `tx`, without allocation. Nothing changes if `tx` has no draft.
-    pub fn abort(&mut self, tx: u64)
-        ensures { self.new ≡ aborted tx self.old }
+    /// This table after the abort of transaction `tx`, whose draft is left out. The same table again if `tx` has no
+    /// draft. No row is copied.
+    pub fn aborted(&self, alloc: Global, tx: u64) -> Result<StoredTable, NoMemory>
+        ensures { IfOk result (λ table. table ≡ aborted tx self.now) }
     {
-        match self.draft.take() {
-            None => {}
-            Some(draft) => {
-                if draft.tx != tx {
-                    self.draft = Some(draft);
-                }
-            }
+        match &self.draft {
+            Some(draft) if draft.tx == tx => Ok(StoredTable {
+                schema: self.schema.again(alloc)?,
+                base: self.base.snapshot()?,
+                draft: None,
+            }),
+            Some(_) => self.copy(alloc),
+            None => self.copy(alloc),
         }
     }
 

@@ -12,7 +12,7 @@ pub use Rattle.cj_rowstore.proofs.ConversionLaws.{draft_put, filled, puts_rise, 
 pub use Rattle.cj_rowstore.specs.RowEntries.{RowEntries, SettlesRow, TurnsInto, puts}
 pub use Rattle.cj_rowstore.specs.Stored.{IsChangeOf, rows_after}
 pub use Rattle.cj_table.proofs.CarriedLaws.{carried_is_database}
-pub use Rattle.cj_table.proofs.Common.{All, IsSlot, None, Option, Schema, Slot, Some, Turned, Value, append_assoc, by_table, bytes_eq, change_into, deref, fold, name_cmp, nat_cmp, position, put_by, seen, slot_of, table_of, table_written, value_cmp}
+pub use Rattle.cj_table.proofs.Common.{aborted, All, IsSlot, None, Option, Schema, Slot, Some, Turned, Value, append_assoc, by_table, bytes_eq, change_into, committed, deref, fold, name_cmp, nat_cmp, position, put_by, seen, slot_of, table_of, table_written, value_cmp}
 pub use Rattle.cj_table.proofs.PutLaws.{putting, slot_put}
 pub use Rattle.cj_table.proofs.WrittenLaws.{write_carries, written_missing}
 pub use Rattle.std.proofs.lemmas.Fn.{filter_same}

@@ -10,7 +10,6 @@ pub use Rattle.cj_model.specs.declared.value.Value.{Value}
 pub use Rattle.cj_dml.proofs.PlanLaws.{change_into}
 pub use Rattle.cj_rowstore.proofs.ConversionLaws.{Turned}
 pub use Rattle.cj_table.specs.Carried.{Carries}
-pub use Rattle.std.proofs.lemmas.List.Edits.{map_over_more}
 pub use Rattle.std.specs.Map.Iter.{deref}
 pub use Rattle.std.specs.Ordering.{nat_cmp}
 pub use Rattle.std.specs.Prelude.{All, fold, position}

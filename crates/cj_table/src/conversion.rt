@@ -6,6 +6,7 @@ ghost use Rattle.cj_rowstore.specs.RowEntries.{TurnsInto};
 ghost use Rattle.cj_rowstore.specs.RowEntries as entries;
 
 use cj_model::{Db, Draft, Duplicate, NoMemory, Row, Rows, Slot, Table, copies};
+use cj_ptree::Shared;
 use cj_rowstore::{RowMap, Scan, StoredTable, View, key_of};
 use std::alloc::Global;
 
@@ -80,13 +81,14 @@ fn stored_slot(alloc: Global, slot: Slot) -> Result<StoredTable, NoMemory>
 }
 
 /// The stored form of a database: rows are moved, and keys copied. Fails only with `NoMemory`.
-pub fn stored_slots(alloc: Global, db: Db) -> Result<Vec<StoredTable>, NoMemory>
+pub fn stored_slots(alloc: Global, db: Db) -> Result<Vec<Shared<StoredTable>>, NoMemory>
     requires { All IsSlot db }
     ensures { IfOk result (λ slots. slots.items ≡ db) }
 {
     let mut slots = Vec::new(alloc);
     for slot in db.into_vec() {
-        slots.push(stored_slot(alloc, slot)?)?;
+        let stored = stored_slot(alloc, slot)?;
+        slots.push(Shared::of(alloc, stored))?;
     }
     Ok(slots)
 }
@@ -134,13 +136,13 @@ fn copied_slot(alloc: Global, stored: &StoredTable) -> Result<Slot, NoMemory>
 }
 
 /// A copy of stored slots as a database of the vocabulary. Fails only with `NoMemory`.
-pub fn copied_slots(alloc: Global, slots: &[StoredTable]) -> Result<Db, NoMemory>
+pub fn copied_slots(alloc: Global, slots: &[Shared<StoredTable>]) -> Result<Db, NoMemory>
     requires { All IsSlot slots.now }
     ensures { IfOk result (λ db. db ≡ slots.now) }
 {
     let mut db = Db::new(alloc);
     for slot in slots {
-        db.push(copied_slot(alloc, slot)?)?;
+        db.push(copied_slot(alloc, slot.get())?)?;
     }
     Ok(db)
 }

@@ -1,23 +1,26 @@
-//! The ends of tables and of transactions, none of which allocates.
+//! The ends of tables and of transactions.
 
-ghost use Rattle.std.specs.Prelude.{◌≡◌, filter, map, not};
+ghost use Rattle.std.specs.Prelude.{◌≡◌, IfOk, filter, map, not};
 ghost use Rattle.std.specs.Str.{bytes_eq};
-ghost use Rattle.cj_model.specs.Database.Steps.{aborted, committed, dropped};
+ghost use Rattle.cj_model.specs.Database.Steps.{dropped};
 ghost use Rattle.cj_model.specs.Database.Tables.{table_of};
+ghost use Rattle.cj_table.specs.Ends.{ended};
 
 use crate::slots::find;
-use cj_model::{LOCKED, NO_TABLE, Name, Outcome, Refusal};
+use cj_model::{LOCKED, NO_TABLE, Name, NoMemory, Outcome, Refusal};
+use cj_ptree::Shared;
 use cj_rowstore::StoredTable;
+use std::alloc::Global;
 
-fn remove_slot(slots: &mut Vec<StoredTable>, name: &Name)
+fn remove_slot(slots: &mut Vec<Shared<StoredTable>>, name: &Name)
     ensures { slots.new.items ≡ filter (λ s. not (bytes_eq (table_of s) name.now)) slots.old.items }
 {
-    slots.retain(|slot| !slot.schema().table.is(name));
+    slots.retain(|slot| !slot.get().schema().table.is(name));
 }
 
 /// Drops a table, or refuses it if the table does not exist or a transaction has a draft of it. Allocates
 /// nothing.
-pub fn drop_slot(slots: &mut Vec<StoredTable>, name: &Name) -> Outcome
+pub fn drop_slot(slots: &mut Vec<Shared<StoredTable>>, name: &Name) -> Outcome
     ensures outcome { result ≡ (dropped slots.old.items name.now).outcome }
     ensures slots { slots.new.items ≡ (dropped slots.old.items name.now).db }
 {
@@ -37,20 +40,45 @@ pub fn drop_slot(slots: &mut Vec<StoredTable>, name: &Name) -> Outcome
     }
 }
 
-/// Commits the drafts of transaction `tx` in all tables, without allocation.
-pub fn commit_slots(slots: &mut Vec<StoredTable>, tx: u64)
-    ensures { slots.new.items ≡ map (committed tx) slots.old.items }
-{
-    for slot in slots.iter_mut() {
-        slot.commit(tx);
-    }
+/// How a transaction ends.
+#[derive(Clone, Copy)]
+pub enum End {
+    Commit,
+    Abort,
 }
 
-/// Drops the drafts of transaction `tx` in all tables, without allocation.
-pub fn abort_slots(slots: &mut Vec<StoredTable>, tx: u64)
-    ensures { slots.new.items ≡ map (aborted tx) slots.old.items }
+/// The slot after the end of transaction `tx`: the same table where `tx` has no draft of it, and a new one else.
+fn ended_slot(
+    alloc: Global,
+    slot: &Shared<StoredTable>,
+    tx: u64,
+    end: End,
+) -> Result<Shared<StoredTable>, NoMemory>
+    ensures { IfOk result (λ after. after ≡ ended end tx slot.now) }
 {
-    for slot in slots.iter_mut() {
-        slot.abort(tx);
+    let table = slot.get();
+    if table.writer() != Some(tx) {
+        return slot.again(alloc);
     }
+    let after = match end {
+        End::Commit => table.committed(alloc, tx)?,
+        End::Abort => table.aborted(alloc, tx)?,
+    };
+    Ok(Shared::of(alloc, after))
+}
+
+/// The slots after the end of transaction `tx`. Fails only with `NoMemory`.
+pub fn ended_slots(
+    alloc: Global,
+    slots: &[Shared<StoredTable>],
+    tx: u64,
+    end: End,
+) -> Result<Vec<Shared<StoredTable>>, NoMemory>
+    ensures { IfOk result (λ after. after.items ≡ map (ended end tx) slots.now) }
+{
+    let mut after = Vec::with_capacity(alloc, slots.len())?;
+    for slot in slots {
+        after.push(ended_slot(alloc, slot, tx, end)?)?;
+    }
+    Ok(after)
 }

@@ -2,7 +2,7 @@
 //!
 //! Contracts see `Tables` as the slots of the vocabulary (`cj_model`, `Database`). Each call gives the outcome
 //! and the database that the vocabulary's step gives. If an allocation fails, the database stays unchanged.
-//! `drop_table` and `abort` can't fail. A snapshot is a database of its own, which costs nothing by its rows.
+//! `drop_table` alone can't fail. A snapshot is a database of its own, which costs one count for each table.
 //!
 //! A new change of one table concerns `cj_dml`, one of the whole database concerns `slots` or `ends` and
 //! `tables`. Read `specs/Carried` first, then `proofs/WrittenLaws` (a write of one table is one of the database)

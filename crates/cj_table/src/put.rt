@@ -7,6 +7,7 @@ ghost use Rattle.cj_table.specs.Put as put;
 use crate::slots::put_slot;
 use cj_dml::{has_misfit, is_column, puts};
 use cj_model::{COLUMN_LIMIT, Column, NoMemory, ROW_LIMIT, Rows, Schema};
+use cj_ptree::Shared;
 use cj_rowstore::StoredTable;
 use std::alloc::Global;
 
@@ -59,7 +60,7 @@ fn slot_made(alloc: Global, schema: Schema, rows: Rows) -> Result<Option<StoredT
 /// schema and rows make no table. `NoMemory` leaves the slots unchanged too.
 pub fn put_table(
     alloc: Global,
-    slots: &mut Vec<StoredTable>,
+    slots: &mut Vec<Shared<StoredTable>>,
     schema: Schema,
     rows: Rows,
 ) -> Result<bool, NoMemory>
@@ -68,6 +69,6 @@ pub fn put_table(
     let Some(slot) = slot_made(alloc, schema, rows)? else {
         return Ok(false);
     };
-    put_slot(slots, slot)?;
+    put_slot(slots, Shared::of(alloc, slot))?;
     Ok(true)
 }

@@ -16,21 +16,33 @@ use cj_model::{
     BAD_COLUMNS, COLUMN_LIMIT, Create, LOCKED, NO_TABLE, Name, NoMemory, Outcome, Refusal,
     TABLE_EXISTS, Write,
 };
+use cj_ptree::Shared;
 use cj_rowstore::{StoredTable, View};
 use std::alloc::Global;
 use std::cmp::Ordering;
 
-/// The slot of the table with this name; none if it does not exist.
-pub fn find<'a>(slots: &'a [StoredTable], name: &Name) -> Option<&'a StoredTable>
+fn slot_named<'a>(slots: &'a [Shared<StoredTable>], name: &Name) -> Option<&'a Shared<StoredTable>>
     ensures { option_copied result ≡ slot_of slots.now name.now }
 {
-    slots.iter().find(|slot| slot.schema().table.is(name))
+    slots.iter().find(|slot| slot.get().schema().table.is(name))
 }
 
-fn position_of(slots: &[StoredTable], name: &Name) -> Option<usize>
+/// The slot of the table with this name; none if it does not exist.
+pub fn find<'a>(slots: &'a [Shared<StoredTable>], name: &Name) -> Option<&'a StoredTable>
+    ensures { option_copied result ≡ slot_of slots.now name.now }
+{
+    match slot_named(slots, name) {
+        Some(slot) => Some(slot.get()),
+        None => None,
+    }
+}
+
+fn position_of(slots: &[Shared<StoredTable>], name: &Name) -> Option<usize>
     ensures { result ≡ position (λ s. bytes_eq (table_of s) name.now) slots.now }
 {
-    slots.iter().position(|slot| slot.schema().table.is(name))
+    slots
+        .iter()
+        .position(|slot| slot.get().schema().table.is(name))
 }
 
 fn table_written(write: &Write) -> &Name
@@ -66,31 +78,31 @@ fn decided_for(
 
 fn write_slot(
     alloc: Global,
-    slot: &mut StoredTable,
+    slot: &mut Shared<StoredTable>,
     tx: u64,
     write: &Write,
 ) -> Result<Outcome, NoMemory>
     requires { IsSlot slot.old }
     ensures { CarriesSlot slot.old tx (change_of slot.old tx write.now) result slot.new }
 {
-    if let Some(other) = slot.other_writer(tx) {
+    if let Some(other) = slot.get().other_writer(tx) {
         return Ok(Outcome::Refused(Refusal {
             code: LOCKED,
             a: other,
             b: 0,
         }));
     }
-    match decided_for(alloc, slot, tx, write)? {
+    match decided_for(alloc, slot.get(), tx, write)? {
         Ok(Change::ByKey(plan)) => {
-            slot.change(tx, plan.changes, plan.count)?;
+            slot.edit(alloc)?.change(tx, plan.changes, plan.count)?;
             Ok(Outcome::Done(plan.written))
         }
         Ok(Change::InPlace { edit, written }) => {
-            slot.edit_rows(&edit)?;
+            slot.edit(alloc)?.edit_rows(&edit)?;
             Ok(Outcome::Done(written))
         }
         Ok(Change::Removal { by, count, written }) => {
-            slot.keep_rows(&by, count)?;
+            slot.edit(alloc)?.keep_rows(&by, count)?;
             Ok(Outcome::Done(written))
         }
         Err(refusal) => Ok(Outcome::Refused(refusal)),
@@ -101,7 +113,7 @@ fn write_slot(
 /// unchanged.
 pub fn write_slots(
     alloc: Global,
-    slots: &mut Vec<StoredTable>,
+    slots: &mut Vec<Shared<StoredTable>>,
     tx: u64,
     write: &Write,
 ) -> Result<Outcome, NoMemory>
@@ -119,12 +131,12 @@ pub fn write_slots(
 
 /// Where a slot is put: `Ok` with the index of the slot of the same table, or `Err` with the index that it
 /// is inserted at.
-fn place_of(slots: &[StoredTable], slot: &StoredTable) -> Result<usize, usize>
+fn place_of(slots: &[Shared<StoredTable>], slot: &StoredTable) -> Result<usize, usize>
     ensures { IsPlace by_table slots.now slot.now result }
 {
     let name = slot.schema().table.as_slice();
     for (i, other) in slots.iter().enumerate() {
-        match name.cmp(other.schema().table.as_slice()) {
+        match name.cmp(other.get().schema().table.as_slice()) {
             Ordering::Less => return Err(i),
             Ordering::Equal => return Ok(i),
             Ordering::Greater => {}
@@ -134,18 +146,21 @@ fn place_of(slots: &[StoredTable], slot: &StoredTable) -> Result<usize, usize>
 }
 
 /// Puts a slot, in place of the one of its table if there is one. `NoMemory` leaves the slots unchanged.
-pub fn put_slot(slots: &mut Vec<StoredTable>, slot: StoredTable) -> Result<(), NoMemory>
+pub fn put_slot(
+    slots: &mut Vec<Shared<StoredTable>>,
+    slot: Shared<StoredTable>,
+) -> Result<(), NoMemory>
     ensures ok { OnOk result (slots.new.items ≡ put_by by_table slots.old.items slot) }
     ensures err { OnErr result (slots.new.items ≡ slots.old.items) }
 {
-    match place_of(slots, &slot) {
+    match place_of(slots, slot.get()) {
         Ok(place) => slots[place] = slot,
         Err(place) => slots.insert(place, slot)?,
     }
     Ok(())
 }
 
-fn has_table(slots: &[StoredTable], name: &Name) -> bool
+fn has_table(slots: &[Shared<StoredTable>], name: &Name) -> bool
     ensures { result ≡ is_some (slot_of slots.now name.now) }
 {
     find(slots, name).is_some()
@@ -154,7 +169,7 @@ fn has_table(slots: &[StoredTable], name: &Name) -> bool
 /// Creates a table, or refuses it. `NoMemory` leaves the slots unchanged.
 pub fn create_slot(
     alloc: Global,
-    slots: &mut Vec<StoredTable>,
+    slots: &mut Vec<Shared<StoredTable>>,
     create: &Create,
 ) -> Result<Outcome, NoMemory>
     requires { length create.now.columns ≤ COLUMN_LIMIT }
@@ -167,6 +182,6 @@ pub fn create_slot(
         return Ok(Outcome::Refused(Refusal::of_code(BAD_COLUMNS)));
     }
     let slot = empty_table(alloc, create)?;
-    put_slot(slots, slot)?;
+    put_slot(slots, Shared::of(alloc, slot))?;
     Ok(Outcome::Done(0))
 }

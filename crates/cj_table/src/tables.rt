@@ -8,21 +8,23 @@ ghost use Rattle.cj_table.specs.Carried.{Carries};
 ghost use Rattle.cj_table.specs.Put.{PutsTable};
 
 use crate::conversion::{copied_slots, stored_slots};
-use crate::ends::{abort_slots, commit_slots, drop_slot};
+use crate::ends::{End, drop_slot, ended_slots};
 use crate::put::put_table;
 use crate::slots::{create_slot, find, write_slots};
 use crate::snapshots::slots_again;
 use crate::writers::writers_in;
 use cj_model::{COLUMN_LIMIT, Create, Db, Name, NoMemory, Outcome, Rows, Schema, Write};
+use cj_ptree::Shared;
 use cj_rowstore::{StoredTable, View};
 use std::alloc::Global;
 use std::marker::Model;
 
 /// A database in memory. Contracts see its slots in rising name of their tables. Each table is a tree of rows by key,
-/// and a draft is a tree that shares what its transaction has not changed.
+/// and a draft is a tree that shares what its transaction has not changed. A table that a snapshot shows is copied by
+/// its first change, but for its rows.
 #[derive(Drop)]
 pub struct Tables {
-    slots: Vec<StoredTable>,
+    slots: Vec<Shared<StoredTable>>,
     alloc: Global,
 }
 
@@ -95,15 +97,17 @@ impl Tables {
         ensures ok { OnOk result (self.new ≡ map (committed tx) self.old) }
         ensures err { OnErr result (self.new ≡ self.old) }
     {
-        commit_slots(&mut self.slots, tx);
+        self.slots = ended_slots(self.alloc, &self.slots, tx, End::Commit)?;
         Ok(())
     }
 
-    /// Ends transaction `tx` without its changes. Allocates nothing.
-    pub fn abort(&mut self, tx: u64)
-        ensures { self.new ≡ map (aborted tx) self.old }
+    /// Ends transaction `tx` without its changes. `NoMemory` leaves the database unchanged.
+    pub fn abort(&mut self, tx: u64) -> Result<(), NoMemory>
+        ensures ok { OnOk result (self.new ≡ map (aborted tx) self.old) }
+        ensures err { OnErr result (self.new ≡ self.old) }
     {
-        abort_slots(&mut self.slots, tx);
+        self.slots = ended_slots(self.alloc, &self.slots, tx, End::Abort)?;
+        Ok(())
     }
 
     /// Builds the trees of a database of the vocabulary: rows are moved, and keys copied. Fails only with
@@ -125,8 +129,8 @@ impl Tables {
         copied_slots(self.alloc, &self.slots)
     }
 
-    /// The same database again, drafts included. It shares all rows and schemas with this one: only the list of tables
-    /// is copied. Fails only with `NoMemory`.
+    /// The same database again, drafts included. It shares all tables with this one: only the list of them is copied.
+    /// Fails only with `NoMemory`.
     pub fn snapshot(&self) -> Result<Tables, NoMemory>
         ensures { IfOk result (λ copy. copy ≡ self.now) }
     {

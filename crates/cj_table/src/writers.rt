@@ -7,6 +7,7 @@ ghost use Rattle.cj_model.specs.Database.Tables.{put_by};
 ghost use Rattle.cj_model.specs.Proving.Gaps.{IsGap};
 
 use cj_model::NoMemory;
+use cj_ptree::Shared;
 use cj_rowstore::StoredTable;
 use std::alloc::Global;
 use std::cmp::Ordering;
@@ -44,12 +45,12 @@ fn put_writer(numbers: &mut Vec<u64>, slot: &StoredTable) -> Result<(), NoMemory
 }
 
 /// The transactions that have a draft in these slots, in rising number. Fails only with `NoMemory`.
-pub fn writers_in(alloc: Global, slots: &[StoredTable]) -> Result<Vec<u64>, NoMemory>
+pub fn writers_in(alloc: Global, slots: &[Shared<StoredTable>]) -> Result<Vec<u64>, NoMemory>
     ensures { IfOk result (λ numbers. numbers.items ≡ writers slots.now) }
 {
     let mut numbers = Vec::new(alloc);
     for slot in slots {
-        put_writer(&mut numbers, slot)?;
+        put_writer(&mut numbers, slot.get())?;
     }
     Ok(numbers)
 }

@@ -11,6 +11,6 @@ loop-slot-preserved c =
       can_next = tt;
       is_finite = tt;
       are_slots = All-tail IsSlot c.in-Some.slot rest (subst (All IsSlot) c.in-Some.ensures.steps.0 i.are_slots);
-      all = ap (λ (l : List Slot). l ++ rest) (c.in_ok-push.ensures.items ∙ ap (λ (s : Slot). made ++ s ∷ []) c.in_ok-stored_slot.ensures)
+      all = ap (λ (l : List Slot). l ++ rest) (c.in_ok-push.ensures.items ∙ ap (λ (s : Slot). made ++ s ∷ []) (c.of.ensures ∙ c.in_ok-stored.ensures))
           ∙ append_assoc made (c.in-Some.slot ∷ []) rest ∙ ap (λ (l : List Slot). made ++ l) (sym c.in-Some.ensures.steps.0) ∙ i.all;
     }
