@@ -203,7 +203,10 @@ locks_sync J B S T n b t s sj yj sb ss = struct_sync (shape (locks.the_type J B 
                   search (heap.crosses, sendable) depth 60 fits 20000,
                   (
                     search (heap.crosses, sendable) depth 20,
-                    tt,
+                    (
+                      search (heap.crosses, sendable) depth 20,
+                      tt,
+                    ),
                   ),
                 ),
               ),
@@ -239,7 +242,10 @@ locks_send J B S T n b t s sj sb ss = struct_send (shape (locks.the_type J B S T
                   search (heap.crosses, sendable) depth 60 fits 20000,
                   (
                     search (heap.crosses, sendable) depth 20,
-                    tt,
+                    (
+                      search (heap.crosses, sendable) depth 20,
+                      tt,
+                    ),
                   ),
                 ),
               ),
