@@ -21,6 +21,7 @@ use cj_log::LogError;
 use cj_model::{Entry, Name};
 use cj_outside::Store;
 use cj_pass::{Naming, Pass};
+use cj_write_path::carry_out;
 use std::sync::Wait;
 use thiserror::Error;
 
@@ -203,7 +204,7 @@ impl<J: Naming, B: Backend, S: Store + Drop> Control<J, B, S> {
         match finished {
             Ok(open) => {
                 let number = open.number;
-                self.locks.carry_out(rt, pass, open, &copy);
+                carry_out(&self.locks, rt, pass, open, &copy);
                 Ok(number)
             }
             Err(error) => Err(refusal_of(error)),

@@ -1,7 +1,8 @@
 //! A cluster that threads share, its sessions, and what an administrator does with it.
 //!
 //! `Control` is what threads share, a `Caller` one session of it, which `serve_session` serves as any desk.
-//! The locks and the way of entries and queries through them are those of `cj_locks`.
+//! The locks are those of `cj_locks`. Entries, queries and lost backends go through them by `cj_write_path`,
+//! `cj_read_path` and `cj_return_path`.
 //! Promised: each write and each read of a `Caller` is a turn, from what its pass had seen to what it sees then. Each
 //! call of the administrator has its event in what the pass sees then, or names why not. The log is shown as of that
 //! history, and each backend as enabled exactly if it is so there.
@@ -23,6 +24,6 @@ mod workers;
 
 pub use administration::AdminError;
 pub use caller::{Caller, CallerError};
-pub use cj_locks::RestoreError;
 pub use cj_pass::{Naming, Pass};
+pub use cj_return_path::RestoreError;
 pub use control::Control;

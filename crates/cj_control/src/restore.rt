@@ -4,16 +4,16 @@ ghost use Rattle.std.specs.Prelude.{◌≢◌, ◌<◌, [], length};
 ghost use Rattle.cj_cluster.specs.History.Legality.{IsLegal};
 ghost use Rattle.cj_board.specs.Seats.{front, pass_view};
 ghost use Rattle.cj_pass.specs.Passes.{HasNotedMore};
-ghost use Rattle.cj_locks.specs.Dumping.{BeginsDump};
-ghost use Rattle.cj_locks.specs.Restoring.{EnablesSince, IsRightDump, LoadsBackend, ReplaysLog};
+ghost use Rattle.cj_return_path.specs.Dumping.{BeginsDump};
+ghost use Rattle.cj_return_path.specs.Restoring.{EnablesSince, IsRightDump, LoadsBackend, ReplaysLog};
 
 use crate::control::Control;
 use cj_backend::Backend;
 use cj_dump::Dump;
-use cj_locks::RestoreError;
 use cj_model::Name;
 use cj_outside::Store;
 use cj_pass::{Naming, Pass};
+use cj_return_path::{RestoreError, begin_dump, enable, load, replay};
 use std::sync::Wait;
 
 impl<J: Naming, B: Backend, S: Store + Drop> Control<J, B, S> {
@@ -36,7 +36,7 @@ impl<J: Naming, B: Backend, S: Store + Drop> Control<J, B, S> {
         ensures more { HasNotedMore (pass_view pass.old.seat) (pass_view pass.new.seat) }
         ensures legal { IsLegal (front pass.new.seat) }
     {
-        self.locks.begin_dump(rt, pass, b, name)
+        begin_dump(&self.locks, rt, pass, b, name)
     }
 
     /// Has backend `b`, which is out, hold its tables of a dump. It is at the dump's position then.
@@ -56,7 +56,7 @@ impl<J: Naming, B: Backend, S: Store + Drop> Control<J, B, S> {
         ensures more { HasNotedMore (pass_view pass.old.seat) (pass_view pass.new.seat) }
         ensures legal { IsLegal (front pass.new.seat) }
     {
-        self.locks.load(rt, pass, b, d)
+        load(&self.locks, rt, pass, b, d)
     }
 
     /// Has backend `b`, which is disabled and not out, take up to `most` entries more, and returns how many it has
@@ -75,7 +75,7 @@ impl<J: Naming, B: Backend, S: Store + Drop> Control<J, B, S> {
         ensures more { HasNotedMore (pass_view pass.old.seat) (pass_view pass.new.seat) }
         ensures legal { IsLegal (front pass.new.seat) }
     {
-        self.locks.replay(rt, pass, b, most)
+        replay(&self.locks, rt, pass, b, most)
     }
 
     /// Waits for the turn, has backend `b` take the rest of the log, and enables it. Returns the position at which it
@@ -88,6 +88,6 @@ impl<J: Naming, B: Backend, S: Store + Drop> Control<J, B, S> {
         ensures more { HasNotedMore (pass_view pass.old.seat) (pass_view pass.new.seat) }
         ensures legal { IsLegal (front pass.new.seat) }
     {
-        self.locks.enable(rt, pass, b)
+        enable(&self.locks, rt, pass, b)
     }
 }

@@ -4,7 +4,7 @@ ghost use Rattle.std.specs.Prelude.{◌≡◌, ◌<◌, length, IfErr, IfSome, O
 ghost use Rattle.cj_cluster.specs.History.Legality.{IsLegal};
 ghost use Rattle.cj_board.specs.Seats.{front, pass_view};
 ghost use Rattle.cj_pass.specs.Passes.{HasNotedMore};
-ghost use Rattle.cj_locks.specs.Restoring.{IsRightDump};
+ghost use Rattle.cj_return_path.specs.Restoring.{IsRightDump};
 ghost use Rattle.cj_replay.specs.Reenabling.{MayRefuseReenabling, IsReplayErrorOf, Reenables, RefusesReenabling};
 
 use cj_backend::Backend;

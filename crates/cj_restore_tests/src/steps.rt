@@ -5,7 +5,7 @@ ghost use mathlib.Core.List.{IsPrefix};
 ghost use Rattle.cj_model.specs.declared.limits.TheConstants.{REQUEST_LIMIT};
 ghost use Rattle.cj_board.specs.Seats.{front};
 ghost use Rattle.cj_desk.specs.DeskStates.{desk_tx};
-ghost use Rattle.cj_locks.specs.Restoring.{IsRightDump};
+ghost use Rattle.cj_return_path.specs.Restoring.{IsRightDump};
 
 use crate::gates::Flags;
 use crate::requests::request;

@@ -22,9 +22,9 @@ use Rattle.cj_locked_cell.proofs.Asking.{fault_between}
 use Rattle.cj_locked.specs.Auditing.{IsHeldOver}
 use Rattle.cj_locked.specs.Changes.{BringsAt}
 use Rattle.cj_locked.specs.Marking.{BeginsMarkSince, MarksSince}
-use Rattle.cj_locks.specs.Dumping.{BeginsDump, CanSpare, DumpsSince, MarksDump, ReadsDump, RefusesDump}
-use Rattle.cj_locks.specs.declared.restore.RestoreError.{RestoreError}
-use Rattle.cj_locks.specs.declared.restore.RestoreError.TheVariants as errors
+use Rattle.cj_return_path.specs.Dumping.{BeginsDump, CanSpare, DumpsSince, MarksDump, ReadsDump, RefusesDump}
+use Rattle.cj_return_path.specs.declared.restore.RestoreError.{RestoreError}
+use Rattle.cj_return_path.specs.declared.restore.RestoreError.TheVariants as errors
 
 -- ---- its marker
 

@@ -26,9 +26,9 @@ use Rattle.cj_locked_cell.specs.Taking.{NotesReport}
 use Rattle.cj_locked_cell.proofs.Asking.{fault_between}
 use Rattle.cj_locked_cell.proofs.Loading.{part_later, within_later}
 use Rattle.cj_locked.specs.Changes.{BringsSince}
-use Rattle.cj_locks.specs.Restoring.{EnablesSince, IsRightDump, ReplaysLog, ReplaysTo, TakesNext}
-use Rattle.cj_locks.specs.declared.restore.RestoreError.{RestoreError}
-use Rattle.cj_locks.specs.declared.restore.RestoreError.TheVariants as errors
+use Rattle.cj_return_path.specs.Restoring.{EnablesSince, IsRightDump, ReplaysLog, ReplaysTo, TakesNext}
+use Rattle.cj_return_path.specs.declared.restore.RestoreError.{RestoreError}
+use Rattle.cj_return_path.specs.declared.restore.RestoreError.TheVariants as errors
 
 -- ---- a load
 

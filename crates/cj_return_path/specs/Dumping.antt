@@ -15,8 +15,8 @@ use Rattle.cj_book.specs.declared.error.BookError.TheVariants as book_errors
 use Rattle.cj_dump.specs.declared.dump.Dump.{Dump}
 use Rattle.cj_locked_cell.specs.Asking.{NotesFault}
 use Rattle.cj_locked.specs.Auditing.{IsHeldOver}
-use Rattle.cj_locks.specs.declared.restore.RestoreError.{RestoreError}
-use Rattle.cj_locks.specs.declared.restore.RestoreError.TheVariants.{NotEnabled, NameTaken, LastHost, HistoryFull, LogFault, Fault, NoMemory}
+use Rattle.cj_return_path.specs.declared.restore.RestoreError.{RestoreError}
+use Rattle.cj_return_path.specs.declared.restore.RestoreError.TheVariants.{NotEnabled, NameTaken, LastHost, HistoryFull, LogFault, Fault, NoMemory}
 
 -- ---- whether one may be taken
 

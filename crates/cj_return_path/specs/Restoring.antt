@@ -13,8 +13,8 @@ use Rattle.cj_board.specs.declared.view.SeatView.{SeatView}
 use Rattle.cj_dump.specs.declared.dump.Dump.{Dump}
 use Rattle.cj_dump.specs.Coverage.{HasCoveredTables, lacks}
 use Rattle.cj_locked_cell.specs.Asking.{NotesFault}
-use Rattle.cj_locks.specs.declared.restore.RestoreError.{RestoreError}
-use Rattle.cj_locks.specs.declared.restore.RestoreError.TheVariants as errors
+use Rattle.cj_return_path.specs.declared.restore.RestoreError.{RestoreError}
+use Rattle.cj_return_path.specs.declared.restore.RestoreError.TheVariants as errors
 
 -- backend b was enabled, or was not, at a history between F and G
 abbrev pub WasEnabled : List Event → List Event → ℕ → Bool → Type 0

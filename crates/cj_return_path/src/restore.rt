@@ -9,12 +9,12 @@ ghost use Rattle.cj_place.specs.Layouts.{placement_of};
 ghost use Rattle.cj_board.specs.Seats.{front, pass_view};
 ghost use Rattle.cj_pass.specs.Passes.{HasNotedMore};
 ghost use Rattle.cj_locked_cell.specs.Loading.{IsLoaded};
-ghost use Rattle.cj_locks.specs.Restoring.{IsRightDump, LoadsBackend};
+ghost use Rattle.cj_return_path.specs.Restoring.{IsRightDump, LoadsBackend};
 
-use crate::locks::Locks;
 use cj_backend::Backend;
 use cj_dump::{Dump, cut, lacks};
 use cj_locked_cell::{SeenOut, Stand};
+use cj_locks::Locks;
 use cj_model::{Db, Name};
 use cj_outside::Store;
 use cj_pass::{Naming, Pass};
@@ -61,67 +61,65 @@ pub enum RestoreError {
     NoMemory,
 }
 
-impl<J: Naming, B: Backend, S: Store + Drop> Locks<J, B, S> {
-    /// Has backend `b` hold this part of the database, which is that at the position. False if it is not out.
-    fn load_part<R: Wait>(
-        &self,
-        rt: &R,
-        pass: &mut Pass<J>,
-        b: u8,
-        db: Db,
-        position: u64,
-    ) -> Result<bool, CellError>
-        requires below { b < length J.layout.names }
-        requires storable { IsStorable db }
-        requires within { position ≤ length (log (front pass.old.seat)) }
-        requires right { B.tells ≡ true → db ≡ part (placement_of J.layout) b (database_after (log (front pass.old.seat)) position) }
-        ensures loaded { IsLoaded b position (pass_view pass.old.seat) (pass_view pass.new.seat) result }
-        ensures more { HasNotedMore (pass_view pass.old.seat) (pass_view pass.new.seat) }
-        ensures legal { IsLegal (front pass.new.seat) }
-    {
-        self.cells[b as usize]
-            .lock(rt)
-            .load(&self.board, pass, b, db, position)
-    }
+/// Has backend `b` hold this part of the database, which is that at the position. False if it is not out.
+fn load_part<J: Naming, B: Backend, S: Store + Drop, R: Wait>(
+    locks: &Locks<J, B, S>,
+    rt: &R,
+    pass: &mut Pass<J>,
+    b: u8,
+    db: Db,
+    position: u64,
+) -> Result<bool, CellError>
+    requires below { b < length J.layout.names }
+    requires storable { IsStorable db }
+    requires within { position ≤ length (log (front pass.old.seat)) }
+    requires right { B.tells ≡ true → db ≡ part (placement_of J.layout) b (database_after (log (front pass.old.seat)) position) }
+    ensures loaded { IsLoaded b position (pass_view pass.old.seat) (pass_view pass.new.seat) result }
+    ensures more { HasNotedMore (pass_view pass.old.seat) (pass_view pass.new.seat) }
+    ensures legal { IsLegal (front pass.new.seat) }
+{
+    locks.cells[b as usize]
+        .lock(rt)
+        .load(&locks.board, pass, b, db, position)
+}
 
-    /// Has backend `b`, which is out, hold its tables of a dump. It is at the dump's position then.
-    ///
-    /// The first reason against it is answered: `AlreadyEnabled`, `NotOut`, `DumpLacks`, `DumpAhead`. After an error the
-    /// backend holds what it did, or after `Fault` and `Starved` is still out.
-    pub fn load<R: Wait>(
-        &self,
-        rt: &R,
-        pass: &mut Pass<J>,
-        b: u8,
-        d: Dump,
-    ) -> Result<(), RestoreError>
-        requires below { b < length J.layout.names }
-        requires dump { IsRightDump B.tells (front pass.old.seat) d }
-        ensures loads { LoadsBackend J.layout b d (pass_view pass.old.seat) (pass_view pass.new.seat) result }
-        ensures more { HasNotedMore (pass_view pass.old.seat) (pass_view pass.new.seat) }
-        ensures legal { IsLegal (front pass.new.seat) }
-    {
-        let length = self.log_length(rt, pass);
-        if self.is_enabled(rt, pass, b) {
-            return Err(RestoreError::AlreadyEnabled);
-        }
-        match self.stand(rt, pass, b) {
-            Stand::Out(_) => {}
-            Stand::At(_) => return Err(RestoreError::NotOut),
-            Stand::Elsewhere => return Err(RestoreError::Starved),
-        }
-        if let Some(table) = lacks(&d, &self.placement, b) {
-            return Err(RestoreError::DumpLacks(table));
-        }
-        if d.position > length {
-            return Err(RestoreError::DumpAhead(d.position));
-        }
-        let Dump { position, db, .. } = cut(d, &self.placement, b);
-        match self.load_part(rt, pass, b, db, position) {
-            Ok(true) => Ok(()),
-            Ok(false) => Err(RestoreError::NotOut),
-            Err(CellError::Failed) => Err(RestoreError::Fault(b)),
-            Err(CellError::Starved) => Err(RestoreError::Starved),
-        }
+/// Has backend `b`, which is out, hold its tables of a dump. It is at the dump's position then.
+///
+/// The first reason against it is answered: `AlreadyEnabled`, `NotOut`, `DumpLacks`, `DumpAhead`. After an error the
+/// backend holds what it did, or after `Fault` and `Starved` is still out.
+pub fn load<J: Naming, B: Backend, S: Store + Drop, R: Wait>(
+    locks: &Locks<J, B, S>,
+    rt: &R,
+    pass: &mut Pass<J>,
+    b: u8,
+    d: Dump,
+) -> Result<(), RestoreError>
+    requires below { b < length J.layout.names }
+    requires dump { IsRightDump B.tells (front pass.old.seat) d }
+    ensures loads { LoadsBackend J.layout b d (pass_view pass.old.seat) (pass_view pass.new.seat) result }
+    ensures more { HasNotedMore (pass_view pass.old.seat) (pass_view pass.new.seat) }
+    ensures legal { IsLegal (front pass.new.seat) }
+{
+    let length = locks.log_length(rt, pass);
+    if locks.is_enabled(rt, pass, b) {
+        return Err(RestoreError::AlreadyEnabled);
+    }
+    match locks.stand(rt, pass, b) {
+        Stand::Out(_) => {}
+        Stand::At(_) => return Err(RestoreError::NotOut),
+        Stand::Elsewhere => return Err(RestoreError::Starved),
+    }
+    if let Some(table) = lacks(&d, &locks.placement, b) {
+        return Err(RestoreError::DumpLacks(table));
+    }
+    if d.position > length {
+        return Err(RestoreError::DumpAhead(d.position));
+    }
+    let Dump { position, db, .. } = cut(d, &locks.placement, b);
+    match load_part(locks, rt, pass, b, db, position) {
+        Ok(true) => Ok(()),
+        Ok(false) => Err(RestoreError::NotOut),
+        Err(CellError::Failed) => Err(RestoreError::Fault(b)),
+        Err(CellError::Starved) => Err(RestoreError::Starved),
     }
 }

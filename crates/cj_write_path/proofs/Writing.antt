@@ -20,7 +20,7 @@ use Rattle.cj_log.specs.declared.item.LogItem.{LogItem}
 use Rattle.cj_pass.specs.Passes.{HasSeenMore}
 use Rattle.cj_locked.specs.Writing.{refusal_for, BeginsSince, EndsSince, RefusesSince, SchedulesSince, WritesTurn}
 use Rattle.cj_locked.proofs.Writing.{still_counted, turn_refused, turn_written, view}
-use Rattle.cj_locks.specs.Writing.{least_after}
+use Rattle.cj_write_path.specs.Writing.{least_after}
 
 -- ---- begun
 

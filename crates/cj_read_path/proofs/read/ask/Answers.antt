@@ -4,7 +4,7 @@ use Rattle.cj_place.specs.Layouts.{placement_of}
 use Rattle.cj_locked_cell.specs.declared.reading.Reading.{Reading}
 use Rattle.cj_locked_cell.specs.Answering.{GivesReadingAt}
 use Rattle.cj_locked_cell.proofs.Answering.{snapshot_answers}
-use Rattle.cj_locks.proofs.locks.Locks.ask.Goals as goal
+use Rattle.cj_read_path.proofs.read.ask.Goals as goal
 
 pub returns-in-Ok-clause-answer : goal.returns-in-Ok-clause-answer
 returns-in-Ok-clause-answer g c =

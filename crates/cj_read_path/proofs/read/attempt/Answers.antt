@@ -3,8 +3,8 @@ use Rattle.cj_model.specs.declared.answer.Refusal.{Refusal}
 use Rattle.cj_model.specs.declared.answer.Reply.TheVariants.{Refused}
 use Rattle.cj_board.specs.Seats.{front, pass_view}
 use Rattle.cj_place.specs.Layouts.{placement_of}
-use Rattle.cj_locks.proofs.Reading.{attempt_earlier, ends_answered, ends_starved}
-use Rattle.cj_locks.proofs.locks.Locks.attempt.Goals as goal
+use Rattle.cj_read_path.proofs.Reading.{attempt_earlier, ends_answered, ends_starved}
+use Rattle.cj_read_path.proofs.read.attempt.Goals as goal
 
 pub returns-in-Ok-clause-attempt : goal.returns-in-Ok-clause-attempt
 returns-in-Ok-clause-attempt g c =

@@ -4,8 +4,8 @@ use Rattle.cj_model.specs.declared.answer.Reply.TheVariants.{Refused}
 use Rattle.cj_model.specs.declared.codes.TheConstants.{HISTORY_FULL}
 use Rattle.cj_board.specs.Seats.{front}
 use Rattle.cj_place.specs.Layouts.{placement_of}
-use Rattle.cj_locks.proofs.Reading.{failed_full, failed_unserved}
-use Rattle.cj_locks.proofs.locks.Locks.attempt_failed.Goals as goal
+use Rattle.cj_read_path.proofs.Reading.{failed_full, failed_unserved}
+use Rattle.cj_read_path.proofs.read.attempt_failed.Goals as goal
 
 pub returns-in-Full-clause-attempt : goal.returns-in-Full-clause-attempt
 returns-in-Full-clause-attempt g c =

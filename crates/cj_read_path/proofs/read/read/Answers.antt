@@ -1,7 +1,7 @@
 use Rattle.cj_board.specs.Seats.{pass_view}
 use Rattle.cj_place.specs.Layouts.{placement_of}
-use Rattle.cj_locks.proofs.Reading.{read_counted, read_newer, read_turn, read_tx, read_within}
-use Rattle.cj_locks.proofs.locks.Locks.read.Goals as goal
+use Rattle.cj_read_path.proofs.Reading.{read_counted, read_newer, read_turn, read_tx, read_within}
+use Rattle.cj_read_path.proofs.read.read.Goals as goal
 
 pub returns-clause-turn : goal.returns-clause-turn
 returns-clause-turn g c =

@@ -2,7 +2,7 @@ use Rattle.std.proofs.Common.{◌≤◌, length, arith}
 use Rattle.cj_cluster.specs.History.Histories.{log}
 use Rattle.cj_cluster.proofs.Pushed.{log-prefix, prefix_length}
 use Rattle.cj_board.specs.Seats.{front}
-use Rattle.cj_locks.proofs.locks.Locks.read_until.Goals as goal
+use Rattle.cj_read_path.proofs.read.read_until.Goals as goal
 
 pub round-requires-clause-owes : goal.round-requires-clause-owes
 round-requires-clause-owes g c =

@@ -1,7 +1,7 @@
 use Rattle.cj_board.specs.Seats.{front, pass_view}
 use Rattle.cj_pass.specs.Passes.{HasSeenMore}
-use Rattle.cj_locks.specs.Reading.{HaveFailedSince}
-use Rattle.cj_locks.proofs.locks.Locks.read_until.Given as goal
+use Rattle.cj_read_path.specs.Reading.{HaveFailedSince}
+use Rattle.cj_read_path.proofs.read.read_until.Given as goal
 
 abbrev pub invariant-loop : goal.invariant-loop
 invariant-loop g l =

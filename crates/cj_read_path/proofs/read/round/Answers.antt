@@ -11,9 +11,9 @@ use Rattle.cj_board.specs.Seats.{front}
 use Rattle.cj_locked.specs.declared.look.Look.TheVariants.{Kept, Tried, Unserved}
 use Rattle.cj_locked.specs.Reading.{EndsRead}
 use Rattle.cj_place.specs.Layouts.{placement_of}
-use Rattle.cj_locks.specs.Reading.{HaveFailedSince}
-use Rattle.cj_locks.proofs.Reading.{all_still, ends_earlier, ends_in_vain, ends_kept, ends_unserved, look_is, some_weaker}
-use Rattle.cj_locks.proofs.locks.Locks.round.Goals as goal
+use Rattle.cj_read_path.specs.Reading.{HaveFailedSince}
+use Rattle.cj_read_path.proofs.Reading.{all_still, ends_earlier, ends_in_vain, ends_kept, ends_unserved, look_is, some_weaker}
+use Rattle.cj_read_path.proofs.read.round.Goals as goal
 
 pub returns-in-Ok-Kept-clause-ended : goal.returns-in-Ok-Kept-clause-ended
 returns-in-Ok-Kept-clause-ended g c = λ F before all.
@@ -22,7 +22,7 @@ returns-in-Ok-Kept-clause-ended g c = λ F before all.
     let m = front c.look_for-looked.new.pass.seat in
     let tried = bit_or c.args.tries.now.failed c.args.tries.now.later in
     let answer = c.in-Ok-Kept.answer in
-    let looked = look_is g.J.Naming.tells g.B.Backend.tells p m query.tx query.select.now query.least tried c.in-Ok-Kept.field-0 (Kept answer c.in-Ok-Kept.at) c.args.self.now.told c.in-Ok-Kept.field-0-is c.in-Ok-Kept.ensures.look in
+    let looked = look_is g.J.Naming.tells g.B.Backend.tells p m query.tx query.select.now query.least tried c.in-Ok-Kept.field-0 (Kept answer c.in-Ok-Kept.at) c.args.locks.now.told c.in-Ok-Kept.field-0-is c.in-Ok-Kept.ensures.look in
     let came : ((c.reply_kept.result.0 ≡ Rows answer.value) × (c.reply_kept.result.1 ≡ c.in-Ok-Kept.at)) ⊎ ((c.reply_kept.result.0 ≡ Refused (refusal_of_code NO_MEMORY)) × (c.reply_kept.result.1 ≡ query.least)) =
     subst (λ (x : Answer). ((c.reply_kept.result.0 ≡ Rows x) × (c.reply_kept.result.1 ≡ c.in-Ok-Kept.at)) ⊎ ((c.reply_kept.result.0 ≡ Refused (refusal_of_code NO_MEMORY)) × (c.reply_kept.result.1 ≡ query.least))) c.deref.ensures c.reply_kept.ensures
     in
@@ -61,7 +61,7 @@ returns-in-Ok-Tried-clause-ended g c = λ F before all.
     let tried = bit_or c.args.tries.now.failed c.args.tries.now.later in
     let failed = c.args.tries.now.failed in
     let mask = c.in-Ok-Tried.serving in
-    let looked = look_is g.J.Naming.tells tells p m query.tx query.select.now query.least tried c.in-Ok-Tried.field-0 (Tried mask) c.args.self.now.told c.in-Ok-Tried.field-0-is c.in-Ok-Tried.ensures.look in
+    let looked = look_is g.J.Naming.tells tells p m query.tx query.select.now query.least tried c.in-Ok-Tried.field-0 (Tried mask) c.args.locks.now.told c.in-Ok-Tried.field-0-is c.in-Ok-Tried.ensures.look in
     some_weaker (λ (r : Reply × ℕ). (r.0 ≡ Refused (record { code = READ_FAULT; a = mask; b = 0 })) × (r.1 ≡ query.least) × ((b : ℕ) → in_mask mask b ≡ true → in_mask failed b ≡ true))
     (λ (r : Reply × ℕ). EndsRead tells p F query.session query.seq query.tx query.select.now query.least m r.0 r.1)
     (λ r x. ends_in_vain tells p F m query.session query.seq query.tx query.select.now query.least tried failed mask r.0 r.1 (prefix_trans F h m before more) looked (all_still F h m query.session query.seq failed more all) x.2 x.0 x.1)
@@ -80,7 +80,7 @@ returns-in-Ok-Unserved-clause-ended g c = λ F before all.
     let p = placement_of g.J.Naming.layout in
     let m = front c.look_for-looked.new.pass.seat in
     let tried = bit_or c.args.tries.now.failed c.args.tries.now.later in
-    let looked = look_is g.J.Naming.tells g.B.Backend.tells p m query.tx query.select.now query.least tried c.in-Ok-Unserved.field-0 Unserved c.args.self.now.told c.in-Ok-Unserved.field-0-is c.in-Ok-Unserved.ensures.look in
+    let looked = look_is g.J.Naming.tells g.B.Backend.tells p m query.tx query.select.now query.least tried c.in-Ok-Unserved.field-0 Unserved c.args.locks.now.told c.in-Ok-Unserved.field-0-is c.in-Ok-Unserved.ensures.look in
     ends_unserved g.B.Backend.tells p F m m query.session query.seq query.tx query.select.now query.least (Refused c.of_code.result) query.least (prefix_trans F (front c.args.pass.now.seat) m before c.look_for-looked.ensures.more.seen.front) (prefix_self m) looked
     (ap (λ (r : Refusal). Refused r) c.of_code.ensures) refl
 

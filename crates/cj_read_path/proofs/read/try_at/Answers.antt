@@ -1,6 +1,6 @@
 use Rattle.cj_board.specs.Seats.{front}
-use Rattle.cj_locks.proofs.Reading.{all_still, failed_earlier, one_more}
-use Rattle.cj_locks.proofs.locks.Locks.try_at.Goals as goal
+use Rattle.cj_read_path.proofs.Reading.{all_still, failed_earlier, one_more}
+use Rattle.cj_read_path.proofs.read.try_at.Goals as goal
 
 pub returns-in-Ended-clause-failed : goal.returns-in-Ended-clause-failed
 returns-in-Ended-clause-failed g c = λ F before all. all_still F (front c.args.pass.now.seat) (front c.attempt.new.pass.seat) c.args.query.now.session c.args.query.now.seq c.args.tries.now.failed c.attempt.ensures.seen.front all

@@ -1,8 +1,8 @@
 use Rattle.std.proofs.Common.{Some}
 use Rattle.cj_board.specs.Seats.{front, pass_view}
 use Rattle.cj_pass.proofs.Passes.{noted_then}
-use Rattle.cj_locks.proofs.Dumping.{begun_again, dumps_earlier}
-use Rattle.cj_locks.proofs.locks.Locks.begin_dump.Goals as goal
+use Rattle.cj_return_path.proofs.Dumping.{begun_again, dumps_earlier}
+use Rattle.cj_return_path.proofs.dump.begin_dump.Goals as goal
 
 pub dump_marked-requires-clause-begun : goal.dump_marked-requires-clause-begun
 dump_marked-requires-clause-begun g c =

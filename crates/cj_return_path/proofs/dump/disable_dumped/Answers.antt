@@ -3,9 +3,9 @@ use Rattle.cj_cluster.specs.declared.event.Event.{Event}
 use Rattle.cj_board.specs.Seats.{front, pass_view}
 use Rattle.cj_pass.proofs.Passes.{noted_then}
 use Rattle.cj_locked.specs.Marking.{MarksSince}
-use Rattle.cj_locks.specs.Dumping.{DumpsSince}
-use Rattle.cj_locks.proofs.Dumping.{dumped}
-use Rattle.cj_locks.proofs.locks.Locks.disable_dumped.Goals as goal
+use Rattle.cj_return_path.specs.Dumping.{DumpsSince}
+use Rattle.cj_return_path.proofs.Dumping.{dumped}
+use Rattle.cj_return_path.proofs.dump.disable_dumped.Goals as goal
 
 pub returns-in_err-disable-clause-more : goal.returns-in_err-disable-clause-more
 returns-in_err-disable-clause-more g c = noted_then (pass_view c.args.pass.now.seat) (pass_view c.finish_marker.new.pass.seat) (pass_view c.disable.new.pass.seat) c.finish_marker.ensures.more c.disable.ensures.more

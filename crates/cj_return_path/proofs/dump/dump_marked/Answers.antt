@@ -2,8 +2,8 @@ use Rattle.std.proofs.Common.{Some}
 use Rattle.cj_board.specs.Seats.{front, pass_view}
 use Rattle.cj_locked.proofs.Marking.{marked_now}
 use Rattle.cj_pass.proofs.Passes.{noted_then}
-use Rattle.cj_locks.proofs.Dumping.{dump_read}
-use Rattle.cj_locks.proofs.locks.Locks.dump_marked.Goals as goal
+use Rattle.cj_return_path.proofs.Dumping.{dump_read}
+use Rattle.cj_return_path.proofs.dump.dump_marked.Goals as goal
 
 pub finish_dump-requires-clause-holds : goal.finish_dump-requires-clause-holds
 finish_dump-requires-clause-holds g c =

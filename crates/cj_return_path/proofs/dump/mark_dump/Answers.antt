@@ -3,9 +3,9 @@ use Rattle.cj_cluster.specs.declared.event.Event.{Event}
 use Rattle.cj_board.specs.Seats.{front, pass_view}
 use Rattle.cj_book.specs.Books.{BookState}
 use Rattle.cj_pass.proofs.Passes.{noted_then}
-use Rattle.cj_locks.specs.Dumping.{CanSpare}
-use Rattle.cj_locks.proofs.Dumping.{begun_earlier}
-use Rattle.cj_locks.proofs.locks.Locks.mark_dump.Goals as goal
+use Rattle.cj_return_path.specs.Dumping.{CanSpare}
+use Rattle.cj_return_path.proofs.Dumping.{begun_earlier}
+use Rattle.cj_return_path.proofs.dump.mark_dump.Goals as goal
 
 pub returns-in-Ok-Some-clause-ok : goal.returns-in-Ok-Some-clause-ok
 returns-in-Ok-Some-clause-ok g c =

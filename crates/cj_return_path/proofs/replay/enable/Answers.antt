@@ -1,7 +1,7 @@
 use Rattle.cj_board.specs.Seats.{front, pass_view}
 use Rattle.cj_pass.proofs.Passes.{noted_then}
-use Rattle.cj_locks.proofs.Restoring.{enables_earlier, not_replayed}
-use Rattle.cj_locks.proofs.locks.Locks.enable.Goals as goal
+use Rattle.cj_return_path.proofs.Restoring.{enables_earlier, not_replayed}
+use Rattle.cj_return_path.proofs.replay.enable.Goals as goal
 
 pub returns-then-is_in-clause-more : goal.returns-then-is_in-clause-more
 returns-then-is_in-clause-more g c = noted_then (pass_view c.args.pass.now.seat) (pass_view c.hold-length.new.pass.seat) (pass_view c.give_back.new.pass.seat) c.hold-length.ensures.more c.give_back.ensures.more

@@ -3,8 +3,8 @@ use Rattle.cj_cluster.specs.History.Histories.{log}
 use Rattle.cj_cluster.proofs.Pushed.{log-prefix, prefix_length}
 use Rattle.cj_board.specs.Seats.{front, pass_view}
 use Rattle.cj_pass.proofs.Passes.{noted_then}
-use Rattle.cj_locks.proofs.Restoring.{replays_earlier}
-use Rattle.cj_locks.proofs.locks.Locks.replay.Goals as goal
+use Rattle.cj_return_path.proofs.Restoring.{replays_earlier}
+use Rattle.cj_return_path.proofs.replay.replay.Goals as goal
 
 pub returns-then-is_enabled-clause-more : goal.returns-then-is_enabled-clause-more
 returns-then-is_enabled-clause-more g c = noted_then (pass_view c.args.pass.now.seat) (pass_view c.log_length-until.new.pass.seat) (pass_view c.is_enabled.new.pass.seat) c.log_length-until.ensures.more c.is_enabled.ensures.more

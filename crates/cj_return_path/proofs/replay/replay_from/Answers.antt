@@ -3,10 +3,10 @@ use Rattle.cj_cluster.specs.History.Histories.{log}
 use Rattle.cj_board.specs.Seats.{front, pass_view}
 use Rattle.cj_pass.proofs.Passes.{noted_then}
 use Rattle.cj_locked_cell.proofs.Loading.{within_later}
-use Rattle.cj_locks.specs.Restoring.{TakesNext}
-use Rattle.cj_locks.specs.declared.restore.RestoreError.{RestoreError}
-use Rattle.cj_locks.proofs.Restoring.{not_taken}
-use Rattle.cj_locks.proofs.locks.Locks.replay_from.Goals as goal
+use Rattle.cj_return_path.specs.Restoring.{TakesNext}
+use Rattle.cj_return_path.specs.declared.restore.RestoreError.{RestoreError}
+use Rattle.cj_return_path.proofs.Restoring.{not_taken}
+use Rattle.cj_return_path.proofs.replay.replay_from.Goals as goal
 
 pub replay_next-requires-clause-until : goal.replay_next-requires-clause-until
 replay_next-requires-clause-until g c = within_later (front c.args.pass.now.seat) (front c.loop.pass.seat) c.loop.invariant.more.seen.front c.args.until c.requires.until

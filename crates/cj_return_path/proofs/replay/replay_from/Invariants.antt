@@ -3,7 +3,7 @@ use Rattle.cj_board.specs.Seats.{front, pass_view}
 use Rattle.cj_cluster.specs.History.Histories.{log}
 use Rattle.cj_cluster.specs.History.Legality.{IsLegal}
 use Rattle.cj_pass.specs.Passes.{HasNotedMore}
-use Rattle.cj_locks.proofs.locks.Locks.replay_from.Given as goal
+use Rattle.cj_return_path.proofs.replay.replay_from.Given as goal
 
 abbrev pub invariant-loop : goal.invariant-loop
 invariant-loop g l =

@@ -5,8 +5,8 @@ use Rattle.cj_cluster.specs.History.Histories.{log}
 use Rattle.cj_board.specs.Seats.{front, pass_view}
 use Rattle.cj_locked_cell.proofs.Loading.{within_later}
 use Rattle.cj_pass.proofs.Passes.{noted_then}
-use Rattle.cj_locks.proofs.Restoring.{no_more, takes_earlier}
-use Rattle.cj_locks.proofs.locks.Locks.replay_next.Goals as goal
+use Rattle.cj_return_path.proofs.Restoring.{no_more, takes_earlier}
+use Rattle.cj_return_path.proofs.replay.replay_next.Goals as goal
 
 pub returns-in-Ok-Some-clause-takes : goal.returns-in-Ok-Some-clause-takes
 returns-in-Ok-Some-clause-takes g c =

@@ -1,8 +1,8 @@
 use Rattle.cj_board.specs.Seats.{front, pass_view}
 use Rattle.cj_pass.proofs.Passes.{noted_then}
 use Rattle.cj_locked_cell.proofs.Loading.{within_later}
-use Rattle.cj_locks.proofs.Restoring.{replayed_earlier}
-use Rattle.cj_locks.proofs.locks.Locks.replay_there.Goals as goal
+use Rattle.cj_return_path.proofs.Restoring.{replayed_earlier}
+use Rattle.cj_return_path.proofs.replay.replay_there.Goals as goal
 
 pub replay_from-requires-clause-until : goal.replay_from-requires-clause-until
 replay_from-requires-clause-until g c = within_later (front c.args.pass.now.seat) (front c.stand.new.pass.seat) c.stand.ensures.more.seen.front c.args.until c.requires.until

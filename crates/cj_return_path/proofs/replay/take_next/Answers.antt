@@ -4,8 +4,8 @@ use Rattle.cj_board.specs.Seats.{front, pass_view}
 use Rattle.cj_board.proofs.Histories.{log_bound}
 use Rattle.cj_cluster.specs.History.Histories.{log}
 use Rattle.cj_pass.proofs.Passes.{noted_then}
-use Rattle.cj_locks.proofs.Restoring.{took, took_next}
-use Rattle.cj_locks.proofs.locks.Locks.take_next.Goals as goal
+use Rattle.cj_return_path.proofs.Restoring.{took, took_next}
+use Rattle.cj_return_path.proofs.replay.take_next.Goals as goal
 
 pub overflow_add-next : goal.overflow_add-next
 overflow_add-next g c =

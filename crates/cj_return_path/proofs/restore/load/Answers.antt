@@ -13,8 +13,8 @@ use Rattle.cj_replica.specs.declared.replica.CellError.TheVariants.{Failed}
 use Rattle.cj_locked_cell.specs.Loading.{IsLoaded}
 use Rattle.cj_locked_cell.proofs.Asking.{fault_between}
 use Rattle.cj_locked_cell.proofs.Loading.{within_later}
-use Rattle.cj_locks.proofs.Restoring.{cut_right, cut_storable}
-use Rattle.cj_locks.proofs.locks.Locks.load.Goals as goal
+use Rattle.cj_return_path.proofs.Restoring.{cut_right, cut_storable}
+use Rattle.cj_return_path.proofs.restore.load.Goals as goal
 
 pub returns-then-is_enabled-clause-more : goal.returns-then-is_enabled-clause-more
 returns-then-is_enabled-clause-more g c = noted_then (pass_view c.args.pass.now.seat) (pass_view c.log_length-length.new.pass.seat) (pass_view c.is_enabled.new.pass.seat) c.log_length-length.ensures.more c.is_enabled.ensures.more
@@ -43,7 +43,7 @@ returns-then-d-length-clause-loads g c =
 
 pub load_part-requires-clause-storable : goal.load_part-requires-clause-storable
 load_part-requires-clause-storable g c =
-    let same : c.cut-position.result ≡ cut c.args.d g.J.Naming.layout c.args.b = c.cut-position.ensures ∙ ap (λ (l : Layout). cut c.args.d l c.args.b) c.args.self.now.laid in
+    let same : c.cut-position.result ≡ cut c.args.d g.J.Naming.layout c.args.b = c.cut-position.ensures ∙ ap (λ (l : Layout). cut c.args.d l c.args.b) c.args.locks.now.laid in
     subst (λ (x : Dump). IsStorable x.db) (sym same) (cut_storable g.J.Naming.layout c.args.b c.args.d c.requires.dump.storable)
 
 pub load_part-requires-clause-within : goal.load_part-requires-clause-within
@@ -55,7 +55,7 @@ load_part-requires-clause-within g c =
     let before : HasNotedMore u w = noted_then u v w c.log_length-length.ensures.more later in
     let most : c.args.d.position ≤ c.log_length-length.result = search rules in
     let within : c.args.d.position ≤ length (log v.front) = subst (λ (k : ℕ). c.args.d.position ≤ k) c.log_length-length.ensures.length most in
-    let same : c.cut-position.result ≡ cut c.args.d g.J.Naming.layout c.args.b = c.cut-position.ensures ∙ ap (λ (l : Layout). cut c.args.d l c.args.b) c.args.self.now.laid in
+    let same : c.cut-position.result ≡ cut c.args.d g.J.Naming.layout c.args.b = c.cut-position.ensures ∙ ap (λ (l : Layout). cut c.args.d l c.args.b) c.args.locks.now.laid in
     subst (λ (x : Dump). x.position ≤ length (log w.front)) (sym same) (within_later v.front w.front later.seen.front c.args.d.position within)
 
 pub load_part-requires-clause-right : goal.load_part-requires-clause-right
@@ -66,8 +66,8 @@ load_part-requires-clause-right g c on =
     let later : HasNotedMore v w = noted_then v (pass_view c.is_enabled.new.pass.seat) w c.is_enabled.ensures.more c.stand.ensures.more in
     let before : HasNotedMore u w = noted_then u v w c.log_length-length.ensures.more later in
     let nothing : c.lacks.result ≡ None = search rules in
-    let none : lacks c.args.d g.J.Naming.layout c.args.b ≡ None = sym (c.lacks.ensures ∙ ap (λ (l : Layout). lacks c.args.d l c.args.b) c.args.self.now.laid) ∙ nothing in
-    let same : c.cut-position.result ≡ cut c.args.d g.J.Naming.layout c.args.b = c.cut-position.ensures ∙ ap (λ (l : Layout). cut c.args.d l c.args.b) c.args.self.now.laid in
+    let none : lacks c.args.d g.J.Naming.layout c.args.b ≡ None = sym (c.lacks.ensures ∙ ap (λ (l : Layout). lacks c.args.d l c.args.b) c.args.locks.now.laid) ∙ nothing in
+    let same : c.cut-position.result ≡ cut c.args.d g.J.Naming.layout c.args.b = c.cut-position.ensures ∙ ap (λ (l : Layout). cut c.args.d l c.args.b) c.args.locks.now.laid in
     subst (λ (x : Dump). x.db ≡ part (placement_of g.J.Naming.layout) c.args.b (database_after (log w.front) x.position)) (sym same) (cut_right g.B.Backend.tells g.J.Naming.layout c.args.b u.front w.front c.args.d c.requires.dump none before.seen.front on)
 
 pub returns-in-Ok-true-clause-loads : goal.returns-in-Ok-true-clause-loads
@@ -80,8 +80,8 @@ returns-in-Ok-true-clause-loads g c =
     let most : c.args.d.position ≤ c.log_length-length.result = search rules in
     let within : c.args.d.position ≤ length (log v.front) = subst (λ (k : ℕ). c.args.d.position ≤ k) c.log_length-length.ensures.length most in
     let nothing : c.lacks.result ≡ None = search rules in
-    let none : lacks c.args.d g.J.Naming.layout c.args.b ≡ None = sym (c.lacks.ensures ∙ ap (λ (l : Layout). lacks c.args.d l c.args.b) c.args.self.now.laid) ∙ nothing in
-    let same : c.cut-position.result ≡ cut c.args.d g.J.Naming.layout c.args.b = c.cut-position.ensures ∙ ap (λ (l : Layout). cut c.args.d l c.args.b) c.args.self.now.laid in
+    let none : lacks c.args.d g.J.Naming.layout c.args.b ≡ None = sym (c.lacks.ensures ∙ ap (λ (l : Layout). lacks c.args.d l c.args.b) c.args.locks.now.laid) ∙ nothing in
+    let same : c.cut-position.result ≡ cut c.args.d g.J.Naming.layout c.args.b = c.cut-position.ensures ∙ ap (λ (l : Layout). cut c.args.d l c.args.b) c.args.locks.now.laid in
     let z = pass_view c.load_part.new.pass.seat in
     let done : c.load_part.result ≡ Ok true = search rules in
     let loaded : Contains z.position_notes (c.args.b, c.cut-position.result.position) = subst (λ (r : Result Bool CellError). IsLoaded c.args.b c.cut-position.result.position w z r) done c.load_part.ensures.loaded in

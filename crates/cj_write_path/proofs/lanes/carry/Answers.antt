@@ -3,7 +3,7 @@ use Rattle.std.specs.Arc.{arc_value}
 use Rattle.cj_cluster.specs.History.Histories.{log}
 use Rattle.cj_cluster.proofs.Pushed.{log-prefix, prefix_get}
 use Rattle.cj_board.specs.Seats.{front}
-use Rattle.cj_locks.proofs.locks.Locks.carry.Goals as goal
+use Rattle.cj_write_path.proofs.lanes.carry.Goals as goal
 
 pub new-requires-clause-scheduled : goal.new-requires-clause-scheduled
 new-requires-clause-scheduled g c =

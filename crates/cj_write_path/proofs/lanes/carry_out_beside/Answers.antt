@@ -5,7 +5,7 @@ use Rattle.cj_locked.specs.Writing.{HoldsEntry}
 use Rattle.cj_board.specs.Seats.{front}
 use Rattle.cj_place.specs.Layouts.{placement_of}
 use Rattle.cj_locked.proofs.Ending.{holds_on}
-use Rattle.cj_locks.proofs.locks.Locks.carry_out_beside.Goals as goal
+use Rattle.cj_write_path.proofs.lanes.carry_out_beside.Goals as goal
 
 pub end-requires-clause-holds : goal.end-requires-clause-holds
 end-requires-clause-holds g c =

@@ -3,7 +3,7 @@ use Rattle.cj_cluster.specs.History.Histories.{log}
 use Rattle.cj_board.specs.Seats.{front}
 use Rattle.cj_place.specs.Layouts.{placement_of}
 use Rattle.cj_locked.proofs.Ending.{entry_there}
-use Rattle.cj_locks.proofs.locks.Locks.hear_at.Goals as goal
+use Rattle.cj_write_path.proofs.lanes.hear_at.Goals as goal
 
 pub count-requires-clause-entry : goal.count-requires-clause-entry
 count-requires-clause-entry g c =

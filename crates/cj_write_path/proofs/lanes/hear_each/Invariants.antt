@@ -3,7 +3,7 @@ use Rattle.cj_place.specs.Layouts.{placement_of}
 use Rattle.cj_pass.specs.Passes.{HasNotedMore}
 use Rattle.cj_locked_cell.specs.Taking.{HasTallied}
 use Rattle.cj_tally.specs.Tallies.{HaveReportedBelow, KeepsReports}
-use Rattle.cj_locks.proofs.locks.Locks.hear_each.Given as goal
+use Rattle.cj_write_path.proofs.lanes.hear_each.Given as goal
 
 abbrev pub invariant-loop-b : goal.invariant-loop-b
 invariant-loop-b g l =

@@ -6,7 +6,7 @@ use Rattle.cj_board.specs.declared.view.SeatView.{SeatView}
 use Rattle.cj_board.specs.Seats.{front}
 use Rattle.cj_place.specs.Layouts.{placement_of}
 use Rattle.cj_locked.proofs.Ending.{entry_there}
-use Rattle.cj_locks.proofs.locks.Locks.post_at.Goals as goal
+use Rattle.cj_write_path.proofs.lanes.post_at.Goals as goal
 
 pub new-job-requires-clause-scheduled : goal.new-job-requires-clause-scheduled
 new-job-requires-clause-scheduled g c =

@@ -3,8 +3,8 @@ use Rattle.cj_board.specs.declared.view.SeatView.{SeatView}
 use Rattle.cj_board.specs.Seats.{pass_view}
 use Rattle.cj_pass.specs.Passes.{HasNotedMore}
 use Rattle.cj_pass.proofs.Passes.{noted_then}
-use Rattle.cj_locks.proofs.Reporting.{reported_beside}
-use Rattle.cj_locks.proofs.locks.Locks.take_beside.Goals as goal
+use Rattle.cj_write_path.proofs.Reporting.{reported_beside}
+use Rattle.cj_write_path.proofs.lanes.take_beside.Goals as goal
 
 pub returns-clause-more : goal.returns-clause-more
 returns-clause-more g c =

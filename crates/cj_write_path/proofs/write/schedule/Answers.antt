@@ -3,8 +3,8 @@ use Rattle.cj_place.specs.Layouts.{placement_of}
 use Rattle.cj_locked.specs.Writing.{RefusesSince, SchedulesSince}
 use Rattle.cj_locked.proofs.Beginning.{err_weaker, ok_weaker, refused_earlier}
 use Rattle.cj_locked.proofs.Finishing.{appended_now, scheduled_earlier}
-use Rattle.cj_locks.proofs.Writing.{begun_longer, begun_quiet}
-use Rattle.cj_locks.proofs.locks.Locks.schedule.Goals as goal
+use Rattle.cj_write_path.proofs.Writing.{begun_longer, begun_quiet}
+use Rattle.cj_write_path.proofs.write.schedule.Goals as goal
 
 pub finish-requires-clause-holds : goal.finish-requires-clause-holds
 finish-requires-clause-holds g c =

@@ -7,7 +7,7 @@ use Rattle.cj_tally.specs.Tallies.{IsTallyOf}
 use Rattle.cj_locked_cell.specs.Taking.{HasTallied}
 use Rattle.cj_locked.proofs.Ending.{entry_there}
 use Rattle.cj_locked_cell.proofs.Tallying.{tallied_more}
-use Rattle.cj_locks.proofs.locks.Locks.take_at.Goals as goal
+use Rattle.cj_write_path.proofs.write.take_at.Goals as goal
 
 pub take-did-requires-clause-entry : goal.take-did-requires-clause-entry
 take-did-requires-clause-entry g c = entry_there (placement_of g.J.Naming.layout) (front c.args.pass.now.seat) c.args.n c.args.e.now c.requires.scheduled

@@ -2,8 +2,8 @@ use Rattle.cj_board.specs.Seats.{front, pass_view}
 use Rattle.cj_place.specs.Layouts.{placement_of}
 use Rattle.cj_locked.proofs.Ending.{scheduled_on}
 use Rattle.cj_pass.proofs.Passes.{noted_then}
-use Rattle.cj_locks.proofs.Reporting.{reported_next}
-use Rattle.cj_locks.proofs.locks.Locks.take_everywhere.Goals as goal
+use Rattle.cj_write_path.proofs.Reporting.{reported_next}
+use Rattle.cj_write_path.proofs.write.take_everywhere.Goals as goal
 
 pub take_at-requires-clause-scheduled : goal.take_at-requires-clause-scheduled
 take_at-requires-clause-scheduled g c = scheduled_on (placement_of g.J.Naming.layout) (front c.args.pass.now.seat) c.args.n c.args.e.now c.requires.scheduled (front c.loop-b.pass.seat) c.loop-b.invariant.more.seen.front

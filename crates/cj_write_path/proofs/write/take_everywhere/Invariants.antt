@@ -4,7 +4,7 @@ use Rattle.cj_place.specs.Layouts.{placement_of}
 use Rattle.cj_pass.specs.Passes.{HasNotedMore}
 use Rattle.cj_locked_cell.specs.Taking.{HasTallied}
 use Rattle.cj_tally.specs.Tallies.{HaveReportedBelow}
-use Rattle.cj_locks.proofs.locks.Locks.take_everywhere.Given as goal
+use Rattle.cj_write_path.proofs.write.take_everywhere.Given as goal
 
 abbrev pub invariant-loop-b : goal.invariant-loop-b
 invariant-loop-b g l =

@@ -1,8 +1,8 @@
 use Rattle.std.specs.Arc.{arc_value}
 use Rattle.cj_board.specs.Seats.{front, pass_view}
 use Rattle.cj_place.specs.Layouts.{placement_of}
-use Rattle.cj_locks.proofs.Writing.{write_counted, write_own, write_refused, write_turn, write_within}
-use Rattle.cj_locks.proofs.locks.Locks.write.Goals as goal
+use Rattle.cj_write_path.proofs.Writing.{write_counted, write_own, write_refused, write_turn, write_within}
+use Rattle.cj_write_path.proofs.write.write.Goals as goal
 
 pub returns-in-Ok-clause-turn : goal.returns-in-Ok-clause-turn
 returns-in-Ok-clause-turn g c =

@@ -1,4 +1,2 @@
 pub mod Dumping
-pub mod Reading
 pub mod Restoring
-pub mod Writing
