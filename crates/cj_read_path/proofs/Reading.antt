@@ -34,8 +34,8 @@ use Rattle.cj_locked.specs.Writing.{AreUpTo}
 use Rattle.cj_locked.proofs.Ending.{has_less}
 use Rattle.cj_locked.proofs.Reading.{failed_still, read_leaves, turn_of_read}
 use Rattle.cj_locked.proofs.Writing.{still_counted}
-use Rattle.cj_read_path.specs.declared.read.Attempt.{Attempt}
-use Rattle.cj_read_path.specs.declared.read.Attempt.TheVariants as attempt
+use Rattle.cj_read_path.specs.declared.reads.Attempt.{Attempt}
+use Rattle.cj_read_path.specs.declared.reads.Attempt.TheVariants as attempt
 use Rattle.cj_read_path.specs.Reading.{HaveFailedSince, IsAttempt}
 
 -- ---- masks

@@ -6,8 +6,8 @@ use Rattle.cj_model.specs.Cluster.Placements.{Placement}
 use Rattle.cj_cluster.specs.declared.event.Event.{Event}
 use Rattle.cj_cluster.specs.Moves.Runs.{HasFailedSince}
 use Rattle.cj_locked.specs.Reading.{EndsRead}
-use Rattle.cj_read_path.specs.declared.read.Attempt.{Attempt}
-use Rattle.cj_read_path.specs.declared.read.Attempt.TheVariants as attempt
+use Rattle.cj_read_path.specs.declared.reads.Attempt.{Attempt}
+use Rattle.cj_read_path.specs.declared.reads.Attempt.TheVariants as attempt
 
 -- since history F, each backend of the mask has failed in request q of session s, as G tells
 abbrev pub HaveFailedSince : List Event → List Event → ℕ → ℕ → ℕ → Type 0

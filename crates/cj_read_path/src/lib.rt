@@ -4,10 +4,10 @@
 //! Promised: `read` is a turn of the session whose own pass it is given (`Turn` of `cj_cluster`), and says from which
 //! position on the session's later reads must be answered.
 //! No lock is held while another is taken, and none while a query is printed or a snapshot answers.
-//! To change: `read.rt`, in the order of the calls, the innermost first.
+//! To change: `reads.rt`, in the order of the calls, the innermost first.
 //! To read: `specs/Reading`, `cj_locked/specs/Reading`. Proofs begin in `proofs/Reading`.
 #![tactic(auto)]
 
-mod read;
+mod reads;
 
-pub use read::{Query, read};
+pub use reads::{Query, read};

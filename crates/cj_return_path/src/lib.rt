@@ -4,15 +4,15 @@
 //! Promised: `begin_dump`, `load`, `replay` and `enable` come to what `specs/Dumping` and `specs/Restoring` say: each
 //! has its event in what the pass sees then, or names why not (`RestoreError`).
 //! No lock is held while another is taken, and none over an append. Only `begin_dump` and `enable` take the turn.
-//! To change: `dump.rt` has how a dump is taken, `restore.rt` the load and what may refuse a backend, `replay.rt` the
+//! To change: `dump.rt` has how a dump is taken, `restore.rt` the load and what may refuse a backend, `replays.rt` the
 //! rest.
 //! To read: the files in `specs`. Proofs begin in the files of `proofs` with the same names.
 #![tactic(auto)]
 
 mod dump;
-mod replay;
+mod replays;
 mod restore;
 
 pub use dump::begin_dump;
-pub use replay::{enable, replay};
+pub use replays::{enable, replay};
 pub use restore::{RestoreError, load};

@@ -13,7 +13,7 @@ ghost use Rattle.cj_locked_cell.specs.Taking.{HasTallied};
 ghost use Rattle.cj_locked.specs.Writing.{EndsSince, HoldsEntry, IsScheduledIn};
 
 use crate::brief::is_brief;
-use crate::write::{end, take_everywhere};
+use crate::writes::{end, take_everywhere};
 use cj_backend::Backend;
 use cj_locked::{OpenEntry, without};
 use cj_locks::Locks;
