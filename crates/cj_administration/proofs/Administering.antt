@@ -19,9 +19,9 @@ use Rattle.cj_locked.specs.Changes.{BringsSince}
 use Rattle.cj_locked.specs.Marking.{MarksSince, RefusesMark}
 use Rattle.cj_locked.specs.Orphans.{BeginsAbortSince, IsAbortOf, RefusesAbort, RefusesAppendedSince, SchedulesAbortSince}
 use Rattle.cj_locked.specs.Writing.{EndsSince, FollowsAppend, HoldsAppended}
-use Rattle.cj_control.specs.Administration.{AbortsSince, CanRefuse, ChecksSince, DisablesSince, EndsOrphanSince, IsRefusalOf, RefusesOrphanSince}
-use Rattle.cj_control.specs.declared.administration.AdminError.{AdminError}
-use Rattle.cj_control.specs.declared.administration.AdminError.TheVariants.{NotEnabled, NameTaken, NotOrphan}
+use Rattle.cj_administration.specs.Administration.{AbortsSince, CanRefuse, ChecksSince, DisablesSince, EndsOrphanSince, IsRefusalOf, RefusesOrphanSince}
+use Rattle.cj_administration.specs.declared.administration.AdminError.{AdminError}
+use Rattle.cj_administration.specs.declared.administration.AdminError.TheVariants.{NotEnabled, NameTaken, NotOrphan}
 
 -- ---- a backend is disabled
 

@@ -20,9 +20,9 @@ use Rattle.cj_model.specs.Cluster.Placements.{Placement, part}
 use Rattle.cj_locked_cell.proofs.Asking.{fault_between}
 use Rattle.cj_locked.specs.Auditing.{HoldsTurn, IsHeldOver}
 use Rattle.cj_pass.specs.Passes.{HasNotedMore}
-use Rattle.cj_control.specs.Auditing.{FailsAudit, audit_lines_at, audit_text_of}
-use Rattle.cj_control.specs.declared.administration.AdminError.{AdminError}
-use Rattle.cj_control.specs.declared.administration.AdminError.TheVariants.{NotEnabled, NameTaken, NotOrphan, HistoryFull, LogFault, Fault, NoMemory}
+use Rattle.cj_administration.specs.Auditing.{FailsAudit, audit_lines_at, audit_text_of}
+use Rattle.cj_administration.specs.declared.administration.AdminError.{AdminError}
+use Rattle.cj_administration.specs.declared.administration.AdminError.TheVariants.{NotEnabled, NameTaken, NotOrphan, HistoryFull, LogFault, Fault, NoMemory}
 
 -- ---- one backend's lines
 

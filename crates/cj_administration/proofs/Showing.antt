@@ -11,8 +11,8 @@ use Rattle.cj_cluster.proofs.Pushed.{log-prefix, prefix_length, prefix_trans}
 use Rattle.cj_model.specs.Sql.Names.{IsText}
 use Rattle.cj_print.proofs.Texts.{ascii_text}
 use Rattle.cj_pass.specs.Passes.{HasNotedMore}
-use Rattle.cj_control.specs.Showing.{AreNoted, backend_line, backends_text, no_look, ShowsBackends, StandAtEnd, state_word}
-use Rattle.cj_control.specs.declared.show.Looked.{Looked}
+use Rattle.cj_administration.specs.Showing.{AreNoted, backend_line, backends_text, no_look, ShowsBackends, StandAtEnd, state_word}
+use Rattle.cj_administration.specs.declared.show.Looked.{Looked}
 
 some_on : (o : Option ℕ) (P Q : ℕ → Type 0) → ((n : ℕ) → P n → Q n) → IfSome o P → IfSome o Q
 some_on None P Q on held = held

@@ -14,8 +14,8 @@ use Rattle.cj_book.specs.declared.error.BookError.{BookError}
 use Rattle.cj_book.specs.declared.error.BookError.TheVariants as book_errors
 use Rattle.cj_locked.specs.Orphans.{IsAbortOf, SchedulesAbortSince}
 use Rattle.cj_locked.specs.Writing.{EndsSince}
-use Rattle.cj_control.specs.declared.administration.AdminError.{AdminError}
-use Rattle.cj_control.specs.declared.administration.AdminError.TheVariants.{NotEnabled, NameTaken, NotOrphan, HistoryFull, LogFault, Fault, NoMemory}
+use Rattle.cj_administration.specs.declared.administration.AdminError.{AdminError}
+use Rattle.cj_administration.specs.declared.administration.AdminError.TheVariants.{NotEnabled, NameTaken, NotOrphan, HistoryFull, LogFault, Fault, NoMemory}
 
 -- ---- why the book refuses
 

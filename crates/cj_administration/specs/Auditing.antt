@@ -7,8 +7,8 @@ use Rattle.cj_cluster.specs.declared.event.Event.{Event}
 use Rattle.cj_cluster.specs.History.Histories.{database_after, is_enabled, log}
 use Rattle.cj_board.specs.declared.view.SeatView.{SeatView}
 use Rattle.cj_locked_cell.specs.Asking.{NotesFault}
-use Rattle.cj_control.specs.declared.administration.AdminError.{AdminError}
-use Rattle.cj_control.specs.declared.administration.AdminError.TheVariants.{NotEnabled, NameTaken, NotOrphan, HistoryFull, LogFault, Fault, NoMemory}
+use Rattle.cj_administration.specs.declared.administration.AdminError.{AdminError}
+use Rattle.cj_administration.specs.declared.administration.AdminError.TheVariants.{NotEnabled, NameTaken, NotOrphan, HistoryFull, LogFault, Fault, NoMemory}
 
 -- the lines of backend b at history h: those of its part of the one database there if it is enabled, and else none
 abbrev pub audit_lines_at : List (List ℕ) → Placement → List Event → ℕ → List ℕ

@@ -9,7 +9,7 @@ use Rattle.cj_backend.specs.declared.backend.Counts.{Counts}
 use Rattle.cj_board.specs.declared.view.SeatView.{SeatView}
 use Rattle.cj_cluster.specs.declared.event.Event.{Event}
 use Rattle.cj_cluster.specs.History.Histories.{is_enabled, is_free, log}
-use Rattle.cj_control.specs.declared.show.Looked.{Looked}
+use Rattle.cj_administration.specs.declared.show.Looked.{Looked}
 
 -- the word for how a backend stands, by whether it is enabled and by its position
 abbrev pub state_word : Bool → Option ℕ → List ℕ

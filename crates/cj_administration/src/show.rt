@@ -15,12 +15,12 @@ ghost use Rattle.cj_board.specs.Seats.{front, pass_view};
 ghost use Rattle.cj_listing.specs.Listing.{listing};
 ghost use Rattle.cj_pass.specs.Passes.{HasNotedMore};
 ghost use Rattle.cj_locked.specs.Listing.{item_of, items_between};
-ghost use Rattle.cj_control.specs.Showing as showing;
-ghost use Rattle.cj_control.specs.Showing.{AreNoted, ShowsBackends, StandAtEnd, backend_line, backends_text, counts_text, login_text, position_text};
+ghost use Rattle.cj_administration.specs.Showing as showing;
+ghost use Rattle.cj_administration.specs.Showing.{AreNoted, ShowsBackends, StandAtEnd, backend_line, backends_text, counts_text, login_text, position_text};
 
-use crate::control::Control;
 use cj_audit::into_text;
 use cj_backend::{Backend, Counts};
+use cj_control::Control;
 use cj_listing::make_line;
 use cj_locked::ShownItem;
 use cj_log::{LogEntry, LogItem};
@@ -192,102 +192,124 @@ fn log_text(alloc: Global, names: &Names, items: Vec<ShownItem>) -> Result<Text,
     }
 }
 
-impl<J: Naming, B: Backend, S: Store + Drop> Control<J, B, S> {
-    /// Looks at backend `b`, and copies what is shown of it while its lock is held.
-    ///
-    /// A cell of another backend runs out of memory, in a branch that never runs.
-    fn look_at<R: Wait>(&self, rt: &R, pass: &mut Pass<J>, b: u8) -> Result<Looked, NoMemory>
-        ensures noted { IfOk result (λ x. IfSome x.position (λ n. Contains (pass_view pass.new.seat).position_notes (b, n))) }
-        ensures stands { IfOk result (λ x. (m : List Event) → IsPrefix m (front pass.old.seat) → is_free m ≡ true → length (log (front pass.new.seat)) ≡ length (log m) → is_enabled m b ≡ true → x.position ≡ Some (length (log m))) }
-        ensures more { HasNotedMore (pass_view pass.old.seat) (pass_view pass.new.seat) }
-    {
-        let Some(cell) = self.locks.cells.get(b as usize) else {
-            return Err(NoMemory);
-        };
-        let mut cell = cell.lock(rt);
-        let (number, position) = cell.look(&self.locks.board, pass);
-        if number != b {
-            return Err(NoMemory);
-        }
-        let backend = cell.backend();
-        let login = copy_login(self.locks.alloc, backend.login())?;
-        Ok(Looked {
-            position,
-            counts: backend.counts(),
-            login,
-        })
+/// Looks at backend `b`, and copies what is shown of it while its lock is held.
+///
+/// A cell of another backend runs out of memory, in a branch that never runs.
+fn look_at<J: Naming, B: Backend, S: Store + Drop, R: Wait>(
+    control: &Control<J, B, S>,
+    rt: &R,
+    pass: &mut Pass<J>,
+    b: u8,
+) -> Result<Looked, NoMemory>
+    ensures noted { IfOk result (λ x. IfSome x.position (λ n. Contains (pass_view pass.new.seat).position_notes (b, n))) }
+    ensures stands { IfOk result (λ x. (m : List Event) → IsPrefix m (front pass.old.seat) → is_free m ≡ true → length (log (front pass.new.seat)) ≡ length (log m) → is_enabled m b ≡ true → x.position ≡ Some (length (log m))) }
+    ensures more { HasNotedMore (pass_view pass.old.seat) (pass_view pass.new.seat) }
+{
+    let Some(cell) = control.locks.cells.get(b as usize) else {
+        return Err(NoMemory);
+    };
+    let mut cell = cell.lock(rt);
+    let (number, position) = cell.look(&control.locks.board, pass);
+    if number != b {
+        return Err(NoMemory);
     }
+    let backend = cell.backend();
+    let login = copy_login(control.locks.alloc, backend.login())?;
+    Ok(Looked {
+        position,
+        counts: backend.counts(),
+        login,
+    })
+}
 
-    /// Looks at each backend, in the order of numbers.
-    fn look_at_each<R: Wait>(&self, rt: &R, pass: &mut Pass<J>) -> Result<Vec<Looked>, NoMemory>
-        ensures each { IfOk result (λ looks. length looks.items ≡ length J.layout.names) }
-        ensures noted { IfOk result (λ looks. AreNoted (pass_view pass.new.seat) looks.items) }
-        ensures stand { IfOk result (λ looks. StandAtEnd (front pass.old.seat) (front pass.new.seat) looks.items) }
-        ensures more { HasNotedMore (pass_view pass.old.seat) (pass_view pass.new.seat) }
-    {
-        let mut looks = Vec::new(self.locks.alloc);
-        for b in 0..self.locks.placement.count() {
-            let look = self.look_at(rt, pass, b)?;
-            looks.push(look)?;
-        }
-        Ok(looks)
+/// Looks at each backend, in the order of numbers.
+fn look_at_each<J: Naming, B: Backend, S: Store + Drop, R: Wait>(
+    control: &Control<J, B, S>,
+    rt: &R,
+    pass: &mut Pass<J>,
+) -> Result<Vec<Looked>, NoMemory>
+    ensures each { IfOk result (λ looks. length looks.items ≡ length J.layout.names) }
+    ensures noted { IfOk result (λ looks. AreNoted (pass_view pass.new.seat) looks.items) }
+    ensures stand { IfOk result (λ looks. StandAtEnd (front pass.old.seat) (front pass.new.seat) looks.items) }
+    ensures more { HasNotedMore (pass_view pass.old.seat) (pass_view pass.new.seat) }
+{
+    let mut looks = Vec::new(control.locks.alloc);
+    for b in 0..control.locks.placement.count() {
+        let look = look_at(control, rt, pass, b)?;
+        looks.push(look)?;
     }
+    Ok(looks)
+}
 
-    /// Returns the lines of the backends, of which these looks were had.
-    fn lines_of(&self, looks: &[Looked], enabled: u32) -> Result<Text, NoMemory>
-        requires each { length looks.now ≡ length J.layout.names }
-        ensures { IfOk result (λ text. text ≡ backends_text J.layout.names (λ b. in_mask enabled b) looks.now) }
-    {
-        let mut text = Vec::new(self.locks.alloc);
-        for b in 0..self.locks.placement.count() {
-            let name = self.locks.placement.name(b);
-            append_line(&mut text, name, has_bit(enabled, b), &looks[b as usize])?;
-        }
-        Ok(into_text(text))
+/// Returns the lines of the backends, of which these looks were had.
+fn lines_of<J: Naming, B: Backend, S: Store + Drop>(
+    control: &Control<J, B, S>,
+    looks: &[Looked],
+    enabled: u32,
+) -> Result<Text, NoMemory>
+    requires each { length looks.now ≡ length J.layout.names }
+    ensures { IfOk result (λ text. text ≡ backends_text J.layout.names (λ b. in_mask enabled b) looks.now) }
+{
+    let mut text = Vec::new(control.locks.alloc);
+    for b in 0..control.locks.placement.count() {
+        let name = control.locks.placement.name(b);
+        append_line(&mut text, name, has_bit(enabled, b), &looks[b as usize])?;
     }
+    Ok(into_text(text))
+}
 
-    /// Returns a line for each backend: whether it is enabled in what the pass has seen then, its position by a look
-    /// at it, its counts, and the login of its last call. No lock is held while the lines are made.
-    ///
-    /// The looks are one after another, and others go on meanwhile. So an enabled backend may be shown with a dash for
-    /// its position: it failed in an entry that is open, or it was enabled after the look.
-    pub fn show_backends<R: Wait>(&self, rt: &R, pass: &mut Pass<J>) -> Result<Text, NoMemory>
-        ensures shows { IfOk result (ShowsBackends J.layout.names (pass_view pass.old.seat) (pass_view pass.new.seat)) }
-        ensures more { HasNotedMore (pass_view pass.old.seat) (pass_view pass.new.seat) }
-        ensures legal { IsLegal (front pass.new.seat) }
-    {
-        let looks = self.look_at_each(rt, pass);
-        let enabled = self.locks.book.lock(rt).enabled(&self.locks.board, pass);
-        match looks {
-            Ok(looks) => self.lines_of(&looks, enabled),
-            Err(error) => Err(error),
-        }
+/// Returns a line for each backend: whether it is enabled in what the pass has seen then, its position by a look
+/// at it, its counts, and the login of its last call. No lock is held while the lines are made.
+///
+/// The looks are one after another, and others go on meanwhile. So an enabled backend may be shown with a dash for
+/// its position: it failed in an entry that is open, or it was enabled after the look.
+pub fn show_backends<J: Naming, B: Backend, S: Store + Drop, R: Wait>(
+    control: &Control<J, B, S>,
+    rt: &R,
+    pass: &mut Pass<J>,
+) -> Result<Text, NoMemory>
+    ensures shows { IfOk result (ShowsBackends J.layout.names (pass_view pass.old.seat) (pass_view pass.new.seat)) }
+    ensures more { HasNotedMore (pass_view pass.old.seat) (pass_view pass.new.seat) }
+    ensures legal { IsLegal (front pass.new.seat) }
+{
+    let looks = look_at_each(control, rt, pass);
+    let enabled = control
+        .locks
+        .book
+        .lock(rt)
+        .enabled(&control.locks.board, pass);
+    match looks {
+        Ok(looks) => lines_of(control, &looks, enabled),
+        Err(error) => Err(error),
     }
+}
 
-    /// Returns a line for each entry from `first` to `last` of the recovery log, counted from 1, and for each marker
-    /// that has at least `first` and fewer than `last` entries before it, in their order.
-    ///
-    /// What is shown is copied while the book's lock is held. No lock is held while the lines are made.
-    pub fn show_log<R: Wait>(
-        &self,
-        rt: &R,
-        pass: &mut Pass<J>,
-        first: u64,
-        last: u64,
-    ) -> Result<Text, NoMemory>
-        ensures log { IfOk result (λ text. text ≡ listing J.layout.names (items_between first last (front pass.new.seat))) }
-        ensures more { HasNotedMore (pass_view pass.old.seat) (pass_view pass.new.seat) }
-        ensures legal { IsLegal (front pass.new.seat) }
-    {
-        let alloc = self.locks.alloc;
-        let mut book = self.locks.book.lock(rt);
-        let items = book.shown(alloc, &self.locks.board, pass, first, last)?;
-        drop(book);
-        log_text(alloc, self.locks.placement.names(), items)
-    }
+/// Returns a line for each entry from `first` to `last` of the recovery log, counted from 1, and for each marker
+/// that has at least `first` and fewer than `last` entries before it, in their order.
+///
+/// What is shown is copied while the book's lock is held. No lock is held while the lines are made.
+pub fn show_log<J: Naming, B: Backend, S: Store + Drop, R: Wait>(
+    control: &Control<J, B, S>,
+    rt: &R,
+    pass: &mut Pass<J>,
+    first: u64,
+    last: u64,
+) -> Result<Text, NoMemory>
+    ensures log { IfOk result (λ text. text ≡ listing J.layout.names (items_between first last (front pass.new.seat))) }
+    ensures more { HasNotedMore (pass_view pass.old.seat) (pass_view pass.new.seat) }
+    ensures legal { IsLegal (front pass.new.seat) }
+{
+    let alloc = control.locks.alloc;
+    let mut book = control.locks.book.lock(rt);
+    let items = book.shown(alloc, &control.locks.board, pass, first, last)?;
+    drop(book);
+    log_text(alloc, control.locks.placement.names(), items)
+}
 
-    /// Returns the hits and the misses that the result cache has counted.
-    pub fn show_cache<R: Wait>(&self, rt: &R) -> (u64, u64) {
-        self.locks.book.lock(rt).cache_counts()
-    }
+/// Returns the hits and the misses that the result cache has counted.
+pub fn show_cache<J: Naming, B: Backend, S: Store + Drop, R: Wait>(
+    control: &Control<J, B, S>,
+    rt: &R,
+) -> (u64, u64) {
+    control.locks.book.lock(rt).cache_counts()
 }

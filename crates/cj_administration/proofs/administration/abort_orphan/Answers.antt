@@ -2,8 +2,8 @@ use Rattle.cj_board.specs.Seats.{front, pass_view}
 use Rattle.cj_place.specs.Layouts.{placement_of}
 use Rattle.cj_locked.specs.Orphans.{BeginsAbortSince}
 use Rattle.cj_pass.proofs.Passes.{seen_then}
-use Rattle.cj_control.proofs.Administering.{abort_not_begun, begins_again, ends_earlier}
-use Rattle.cj_control.proofs.control.Control.abort_orphan.Goals as goal
+use Rattle.cj_administration.proofs.Administering.{abort_not_begun, begins_again, ends_earlier}
+use Rattle.cj_administration.proofs.administration.abort_orphan.Goals as goal
 
 pub carry_out_abort-requires : goal.carry_out_abort-requires
 carry_out_abort-requires g c =

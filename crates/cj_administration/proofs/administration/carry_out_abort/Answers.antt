@@ -1,7 +1,7 @@
 use Rattle.cj_board.specs.Seats.{front}
 use Rattle.cj_place.specs.Layouts.{placement_of}
-use Rattle.cj_control.proofs.Administering.{abort_appended}
-use Rattle.cj_control.proofs.control.Control.carry_out_abort.Goals as goal
+use Rattle.cj_administration.proofs.Administering.{abort_appended}
+use Rattle.cj_administration.proofs.administration.carry_out_abort.Goals as goal
 
 pub finish_abort-finished-requires-clause-holds : goal.finish_abort-finished-requires-clause-holds
 finish_abort-finished-requires-clause-holds g c =

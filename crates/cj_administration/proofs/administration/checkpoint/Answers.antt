@@ -2,8 +2,8 @@ use Rattle.std.proofs.Common.{None}
 use Rattle.cj_board.specs.Seats.{front, pass_view}
 use Rattle.cj_locked.proofs.Marking.{marked_now}
 use Rattle.cj_pass.proofs.Passes.{noted_then}
-use Rattle.cj_control.proofs.Administering.{marked_checks, not_begun, not_marked}
-use Rattle.cj_control.proofs.control.Control.checkpoint.Goals as goal
+use Rattle.cj_administration.proofs.Administering.{marked_checks, not_begun, not_marked}
+use Rattle.cj_administration.proofs.administration.checkpoint.Goals as goal
 
 pub finish_checkpoint-marked-requires : goal.finish_checkpoint-marked-requires
 finish_checkpoint-marked-requires g c =

@@ -4,9 +4,9 @@ use Rattle.cj_place.specs.Layouts.{placement_of}
 use Rattle.cj_locked.specs.Auditing.{IsHeldOver}
 use Rattle.cj_locked.proofs.Beginning.{err_weaker, ok_weaker}
 use Rattle.cj_pass.proofs.Passes.{noted_then}
-use Rattle.cj_control.specs.Auditing.{FailsAudit, audit_text_of}
-use Rattle.cj_control.proofs.Auditing.{fails_between, free_over, same_text}
-use Rattle.cj_control.proofs.control.Control.audit.Goals as goal
+use Rattle.cj_administration.specs.Auditing.{FailsAudit, audit_text_of}
+use Rattle.cj_administration.proofs.Auditing.{fails_between, free_over, same_text}
+use Rattle.cj_administration.proofs.audits.audit.Goals as goal
 
 pub returns-clause-text : goal.returns-clause-text
 returns-clause-text g c =

@@ -4,9 +4,9 @@ use Rattle.cj_model.specs.Sql.Names.{IsText}
 use Rattle.cj_board.specs.Seats.{front, pass_view}
 use Rattle.cj_place.specs.Layouts.{placement_of}
 use Rattle.cj_pass.proofs.Passes.{noted_self, noted_then}
-use Rattle.cj_control.specs.Auditing.{audit_lines_at}
-use Rattle.cj_control.proofs.Auditing.{fails_between, lines_next}
-use Rattle.cj_control.proofs.control.Control.audit_each.Goals as goal
+use Rattle.cj_administration.specs.Auditing.{audit_lines_at}
+use Rattle.cj_administration.proofs.Auditing.{fails_between, lines_next}
+use Rattle.cj_administration.proofs.audits.audit_each.Goals as goal
 
 pub loop-b-init : goal.loop-b-init
 loop-b-init g c =

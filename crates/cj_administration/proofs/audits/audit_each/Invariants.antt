@@ -4,8 +4,8 @@ use Rattle.cj_model.specs.Sql.Names.{IsText}
 use Rattle.cj_board.specs.Seats.{front, pass_view}
 use Rattle.cj_place.specs.Layouts.{placement_of}
 use Rattle.cj_pass.specs.Passes.{HasNotedMore}
-use Rattle.cj_control.specs.Auditing.{audit_lines_at}
-use Rattle.cj_control.proofs.control.Control.audit_each.Given as goal
+use Rattle.cj_administration.specs.Auditing.{audit_lines_at}
+use Rattle.cj_administration.proofs.audits.audit_each.Given as goal
 
 abbrev pub invariant-loop-b : goal.invariant-loop-b
 invariant-loop-b g l =

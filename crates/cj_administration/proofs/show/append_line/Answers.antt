@@ -1,8 +1,8 @@
 use Rattle.std.proofs.Common.{refl, codes, sym, subst, [], ◌∷◌}
 use Rattle.cj_model.specs.Sql.Names.{IsText}
 use Rattle.cj_print.proofs.Texts.{ascii_text, name_text}
-use Rattle.cj_control.proofs.Showing.{state_is_text}
-use Rattle.cj_control.proofs.show.append_line.Goals as goal
+use Rattle.cj_administration.proofs.Showing.{state_is_text}
+use Rattle.cj_administration.proofs.show.append_line.Goals as goal
 
 pub append-requires : goal.append-requires
 append-requires c = subst IsText (sym c.as_slice.ensures.value) (name_text c.args.name.now c.as_slice.ensures.name)

@@ -2,7 +2,7 @@ use Rattle.std.proofs.Common.{subst, rules, ◌≡◌}
 use Rattle.std.specs.Fmt.{decimal}
 use Rattle.cj_model.specs.Sql.Names.{IsText}
 use Rattle.cj_print.proofs.Texts.{ascii_text, count_text}
-use Rattle.cj_control.proofs.show.append_number.Goals as goal
+use Rattle.cj_administration.proofs.show.append_number.Goals as goal
 
 pub append-requires : goal.append-requires
 append-requires c = ascii_text c.args.words.now c.requires

@@ -2,8 +2,8 @@ use Rattle.std.proofs.Common.{◌≡◌, [], slice_index_or}
 use Rattle.std.specs.List.{flat_map, range_with_len}
 use Rattle.cj_model.specs.Cluster.Masks.{in_mask}
 use Rattle.cj_model.specs.Sql.Names.{IsText}
-use Rattle.cj_control.specs.Showing.{backend_line, no_look}
-use Rattle.cj_control.proofs.control.Control.lines_of.Given as goal
+use Rattle.cj_administration.specs.Showing.{backend_line, no_look}
+use Rattle.cj_administration.proofs.show.lines_of.Given as goal
 
 abbrev pub invariant-loop-b : goal.invariant-loop-b
 invariant-loop-b g l =

@@ -1,7 +1,7 @@
 use Rattle.std.proofs.Common.{◌≡◌, ◌++◌, map}
 use Rattle.cj_listing.specs.Listing.{listing}
 use Rattle.cj_locked.specs.Listing.{item_of}
-use Rattle.cj_control.proofs.show.log_text.Given as goal
+use Rattle.cj_administration.proofs.show.log_text.Given as goal
 
 -- the lines so far, and those of the items that are left
 abbrev pub invariant-loop-shown : goal.invariant-loop-shown

@@ -2,9 +2,9 @@ use Rattle.std.proofs.Common.{◌≡◌, ◌∙◌, ◌+◌, ℕ, List, true, []
 use Rattle.cj_board.specs.Seats.{front, pass_view}
 use Rattle.cj_cluster.specs.History.Histories.{is_enabled}
 use Rattle.cj_pass.proofs.Passes.{noted_then}
-use Rattle.cj_control.specs.Showing.{AreNoted, StandAtEnd}
-use Rattle.cj_control.proofs.Showing.{noted_on, noted_push, stand_on, stand_push}
-use Rattle.cj_control.proofs.control.Control.look_at_each.Goals as goal
+use Rattle.cj_administration.specs.Showing.{AreNoted, StandAtEnd}
+use Rattle.cj_administration.proofs.Showing.{noted_on, noted_push, stand_on, stand_push}
+use Rattle.cj_administration.proofs.show.look_at_each.Goals as goal
 
 pub returns-in_err-look-clause-more : goal.returns-in_err-look-clause-more
 returns-in_err-look-clause-more g c = noted_then (pass_view c.args.pass.now.seat) (pass_view c.loop-b.pass.seat) (pass_view c.look_at.new.pass.seat) c.loop-b.invariant.more c.look_at.ensures.more

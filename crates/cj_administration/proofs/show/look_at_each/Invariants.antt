@@ -1,8 +1,8 @@
 use Rattle.std.proofs.Common.{◌≡◌, length}
 use Rattle.cj_board.specs.Seats.{front, pass_view}
 use Rattle.cj_pass.specs.Passes.{HasNotedMore}
-use Rattle.cj_control.specs.Showing.{AreNoted, StandAtEnd}
-use Rattle.cj_control.proofs.control.Control.look_at_each.Given as goal
+use Rattle.cj_administration.specs.Showing.{AreNoted, StandAtEnd}
+use Rattle.cj_administration.proofs.show.look_at_each.Given as goal
 
 abbrev pub invariant-loop-b : goal.invariant-loop-b
 invariant-loop-b g l =

@@ -3,10 +3,10 @@ use Rattle.cj_model.specs.Cluster.Masks.{in_mask}
 use Rattle.cj_board.specs.Seats.{pass_view}
 use Rattle.cj_locked.proofs.Beginning.{ok_weaker}
 use Rattle.cj_pass.proofs.Passes.{noted_then}
-use Rattle.cj_control.specs.Showing.{backends_text, ShowsBackends}
-use Rattle.cj_control.specs.declared.show.Looked.{Looked}
-use Rattle.cj_control.proofs.Showing.{noted_on, shown, stand_on}
-use Rattle.cj_control.proofs.control.Control.show_backends.Goals as goal
+use Rattle.cj_administration.specs.Showing.{backends_text, ShowsBackends}
+use Rattle.cj_administration.specs.declared.show.Looked.{Looked}
+use Rattle.cj_administration.proofs.Showing.{noted_on, shown, stand_on}
+use Rattle.cj_administration.proofs.show.show_backends.Goals as goal
 
 pub returns-in-Ok-clause-shows : goal.returns-in-Ok-clause-shows
 returns-in-Ok-clause-shows g c =
