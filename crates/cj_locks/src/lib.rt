@@ -6,7 +6,7 @@
 //! No lock is held while another is taken. No lock that a read needs is held over an append, a print or a query.
 //! To change: `locks.rt` has what the crates above share. The way of an entry is in `cj_write_path`, that of a query in
 //! `cj_read_path`, the way back of a lost backend in `cj_return_path`. What else an administrator does is in
-//! `cj_control`.
+//! `cj_administration`.
 //! To read: the clauses of `Locks`. This crate has no definitions, and its proofs need no file.
 #![tactic(auto)]
 
