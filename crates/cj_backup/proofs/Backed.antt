@@ -10,7 +10,7 @@ use Rattle.cj_place.specs.Layouts.{Layout, hosted_tables}
 use Rattle.cj_dump.specs.declared.dump.Dump.{Dump}
 use Rattle.cj_dump.specs.Dumps.{CanEncode}
 use Rattle.cj_shelf.specs.Shelves.{is_shelved, ShelfState}
-use Rattle.cj_locks.specs.Dumping.{BeginsDump, IsTakenDump}
+use Rattle.cj_return_path.specs.Dumping.{BeginsDump, IsTakenDump}
 use Rattle.cj_backup.specs.declared.backing.BackupError.{BackupError}
 use Rattle.cj_backup.specs.declared.backing.BackupError.TheVariants as errors
 use Rattle.cj_backup.specs.Backups.{BacksUp, Puts}

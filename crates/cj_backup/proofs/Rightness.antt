@@ -16,8 +16,8 @@ use Rattle.cj_cluster.proofs.TransactionLaws.{fit_take, legal_fit}
 use Rattle.cj_dump.specs.declared.dump.Dump.{Dump}
 use Rattle.cj_dump.proofs.Cuts.{taken_covers}
 use Rattle.cj_place.specs.Layouts.{Layout, placement_of}
-use Rattle.cj_locks.specs.Dumping.{IsTakenDump}
-use Rattle.cj_locks.specs.Restoring.{IsRightDump}
+use Rattle.cj_return_path.specs.Dumping.{IsTakenDump}
+use Rattle.cj_return_path.specs.Restoring.{IsRightDump}
 
 -- each table has a name
 tables_named : (db : List Slot) → IsStorable db → All (λ (s : Slot). is_name (table_of s) ≡ true) db

@@ -9,9 +9,9 @@ use Rattle.cj_board.specs.declared.view.SeatView.{SeatView}
 use Rattle.cj_dump.specs.declared.dump.Dump.{Dump}
 use Rattle.cj_shelf.specs.Shelves.{is_shelved, ShelfState}
 use Rattle.cj_locked_cell.specs.Asking.{NotesFault}
-use Rattle.cj_locks.specs.Dumping.{IsLastHostOf, IsTakenDump, MarksDump}
-use Rattle.cj_locks.specs.declared.restore.RestoreError.{RestoreError}
-use Rattle.cj_locks.specs.declared.restore.RestoreError.TheVariants as refused
+use Rattle.cj_return_path.specs.Dumping.{IsLastHostOf, IsTakenDump, MarksDump}
+use Rattle.cj_return_path.specs.declared.restore.RestoreError.{RestoreError}
+use Rattle.cj_return_path.specs.declared.restore.RestoreError.TheVariants as refused
 use Rattle.cj_backup.specs.declared.backing.BackupError.{BackupError}
 use Rattle.cj_backup.specs.declared.backing.BackupError.TheVariants as errors
 

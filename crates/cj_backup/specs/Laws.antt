@@ -5,8 +5,8 @@ use Rattle.cj_cluster.specs.declared.event.Event.{Event}
 use Rattle.cj_cluster.specs.History.Legality.{IsLegal}
 use Rattle.cj_dump.specs.declared.dump.Dump.{Dump}
 use Rattle.cj_place.specs.Layouts.{Layout}
-use Rattle.cj_locks.specs.Dumping.{IsTakenDump}
-use Rattle.cj_locks.specs.Restoring.{IsRightDump}
+use Rattle.cj_return_path.specs.Dumping.{IsTakenDump}
+use Rattle.cj_return_path.specs.Restoring.{IsRightDump}
 
 -- a dump that was taken at history m is right for each legal history F that goes on from it
 abbrev pub DumpsMayBeLoaded : Type 0

@@ -10,14 +10,14 @@ use Rattle.cj_board.specs.declared.view.SeatView.{SeatView}
 use Rattle.cj_dump.specs.declared.dump.Dump.{Dump}
 use Rattle.cj_shelf.specs.Shelves.{ShelfState}
 use Rattle.cj_locked_cell.specs.Asking.{NotesFault}
-use Rattle.cj_locks.specs.Dumping.{BeginsDump}
-use Rattle.cj_locks.specs.Restoring.{EnablesSince, LoadsBackend, ReplaysLog}
-use Rattle.cj_locks.specs.declared.restore.RestoreError.{RestoreError}
-use Rattle.cj_locks.specs.declared.restore.RestoreError.TheVariants as restore
-use Rattle.cj_control.specs.Administration.{ChecksSince, DisablesSince, EndsOrphanSince}
-use Rattle.cj_control.specs.Auditing.{FailsAudit}
-use Rattle.cj_control.specs.declared.administration.AdminError.{AdminError}
-use Rattle.cj_control.specs.declared.administration.AdminError.TheVariants as admin
+use Rattle.cj_return_path.specs.Dumping.{BeginsDump}
+use Rattle.cj_return_path.specs.Restoring.{EnablesSince, LoadsBackend, ReplaysLog}
+use Rattle.cj_return_path.specs.declared.restore.RestoreError.{RestoreError}
+use Rattle.cj_return_path.specs.declared.restore.RestoreError.TheVariants as restore
+use Rattle.cj_administration.specs.Administration.{ChecksSince, DisablesSince, EndsOrphanSince}
+use Rattle.cj_administration.specs.Auditing.{FailsAudit}
+use Rattle.cj_administration.specs.declared.administration.AdminError.{AdminError}
+use Rattle.cj_administration.specs.declared.administration.AdminError.TheVariants as admin
 use Rattle.cj_replay.specs.Reenabling.{Reenables}
 use Rattle.cj_replay.specs.declared.reenabling.ReplayError.{ReplayError}
 use Rattle.cj_replay.specs.declared.reenabling.ReplayError.TheVariants as replay

@@ -5,10 +5,10 @@ use Rattle.cj_cluster.specs.declared.event.Event.{Event}
 use Rattle.cj_cluster.specs.declared.event.Event.TheVariants.{LogFailed}
 use Rattle.cj_board.specs.declared.view.SeatView.{SeatView}
 use Rattle.cj_locked_cell.specs.Asking.{NotesFault}
-use Rattle.cj_control.specs.declared.administration.AdminError.{AdminError}
-use Rattle.cj_control.specs.declared.administration.AdminError.TheVariants as admin
-use Rattle.cj_locks.specs.declared.restore.RestoreError.{RestoreError}
-use Rattle.cj_locks.specs.declared.restore.RestoreError.TheVariants as restore
+use Rattle.cj_administration.specs.declared.administration.AdminError.{AdminError}
+use Rattle.cj_administration.specs.declared.administration.AdminError.TheVariants as admin
+use Rattle.cj_return_path.specs.declared.restore.RestoreError.{RestoreError}
+use Rattle.cj_return_path.specs.declared.restore.RestoreError.TheVariants as restore
 use Rattle.cj_replay.specs.declared.reenabling.ReplayError.{ReplayError}
 use Rattle.cj_replay.specs.declared.reenabling.ReplayError.TheVariants as replay
 use Rattle.cj_backup.specs.declared.backing.BackupError.{BackupError}

@@ -8,8 +8,8 @@ use Rattle.cj_cluster.specs.Script.Lines.{IsBackend}
 use Rattle.cj_place.specs.Layouts.{Layout}
 use Rattle.cj_listing.specs.Listing.{listing}
 use Rattle.cj_locked.specs.Listing.{items_between}
-use Rattle.cj_control.specs.Showing.{ShowsBackends}
-use Rattle.cj_control.specs.declared.administration.AdminError.{AdminError}
+use Rattle.cj_administration.specs.Showing.{ShowsBackends}
+use Rattle.cj_administration.specs.declared.administration.AdminError.{AdminError}
 use Rattle.cj_board.specs.declared.view.SeatView.{SeatView}
 use Rattle.cj_dump.specs.declared.dump.Dump.{Dump}
 use Rattle.cj_shelf.specs.Shelves.{GivesFirst, ShelfState}

@@ -14,7 +14,7 @@ use Rattle.cj_board.specs.declared.view.SeatView.{SeatView}
 use Rattle.cj_dump.specs.declared.dump.Dump.{Dump}
 use Rattle.cj_dump.specs.Dumps.{IsDump}
 use Rattle.cj_shelf.specs.Shelves.{first_of, ShelfState}
-use Rattle.cj_locks.specs.Restoring.{IsRightDump}
+use Rattle.cj_return_path.specs.Restoring.{IsRightDump}
 use Rattle.cj_backup.specs.Backups.{BacksUp}
 use Rattle.cj_backup.specs.declared.backing.BackupError.{BackupError}
 use Rattle.cj_backup.specs.declared.backing.BackupError.TheVariants as errors

@@ -12,11 +12,11 @@ use Rattle.cj_shelf.specs.Shelves.{GivesFirst, is_shelved, SameShelf, ShelfState
 use Rattle.cj_shelf.specs.declared.error.ShelfError.{ShelfError}
 use Rattle.cj_listing.specs.Listing.{listing}
 use Rattle.cj_locked.specs.Listing.{items_between}
-use Rattle.cj_locks.specs.Restoring.{IsRightDump}
-use Rattle.cj_control.specs.Administration.{ChecksSince, DisablesSince, EndsOrphanSince}
-use Rattle.cj_control.specs.Auditing.{audit_text_of, FailsAudit}
-use Rattle.cj_control.specs.Showing.{ShowsBackends}
-use Rattle.cj_control.specs.declared.administration.AdminError.{AdminError}
+use Rattle.cj_return_path.specs.Restoring.{IsRightDump}
+use Rattle.cj_administration.specs.Administration.{ChecksSince, DisablesSince, EndsOrphanSince}
+use Rattle.cj_administration.specs.Auditing.{audit_text_of, FailsAudit}
+use Rattle.cj_administration.specs.Showing.{ShowsBackends}
+use Rattle.cj_administration.specs.declared.administration.AdminError.{AdminError}
 use Rattle.cj_replay.specs.Reenabling.{Reenables}
 use Rattle.cj_replay.specs.declared.reenabling.ReplayError.{ReplayError}
 use Rattle.cj_backup.specs.Backups.{BacksUp}

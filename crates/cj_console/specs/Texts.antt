@@ -2,8 +2,8 @@
 use Rattle.std.specs.Prelude.{ℕ, List, [], ◌∷◌, ◌++◌, codes}
 use Rattle.std.specs.Fmt.{decimal}
 use Rattle.cj_cluster.specs.Script.Lines.{with_line_feed}
-use Rattle.cj_control.specs.declared.administration.AdminError.{AdminError}
-use Rattle.cj_control.specs.declared.administration.AdminError.TheVariants as admin
+use Rattle.cj_administration.specs.declared.administration.AdminError.{AdminError}
+use Rattle.cj_administration.specs.declared.administration.AdminError.TheVariants as admin
 use Rattle.cj_replay.specs.declared.reenabling.ReplayError.{ReplayError}
 use Rattle.cj_replay.specs.declared.reenabling.ReplayError.TheVariants as replay
 use Rattle.cj_backup.specs.declared.backing.BackupError.{BackupError}

@@ -1,7 +1,7 @@
 //! What a command is answered.
 
+use cj_administration::AdminError;
 use cj_backup::BackupError;
-use cj_control::AdminError;
 use cj_model::Text;
 use cj_replay::ReplayError;
 

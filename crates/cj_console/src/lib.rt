@@ -1,6 +1,6 @@
 //! The console of an administrator: each line that it takes is a command, and gets its answer.
 //!
-//! `console` composes calls of `Control` (`cj_control`), `reenable` (`cj_replay`) and `backup` (`cj_backup`), and takes no
+//! `console` composes calls of `cj_administration`, `reenable` (`cj_replay`) and `backup` (`cj_backup`), and takes no
 //! lock itself. So sessions go on while a command is carried out.
 //! Promised: each line up to the first `quit` gets its answer, in order, and what is written is the text of these
 //! answers (`Chats`). Each answer has its cause in what the pass has seen then (`AnswersCommand`).

@@ -8,15 +8,16 @@ ghost use Rattle.cj_board.specs.Seats.{front, pass_view};
 ghost use Rattle.cj_listing.specs.Listing.{listing};
 ghost use Rattle.cj_pass.specs.Passes.{HasSeenMore};
 ghost use Rattle.cj_locked.specs.Listing.{items_between};
-ghost use Rattle.cj_control.specs.Administration.{ChecksSince, DisablesSince, EndsOrphanSince};
-ghost use Rattle.cj_control.specs.Showing.{ShowsBackends};
-ghost use Rattle.cj_control.specs.declared.administration.AdminError as admin;
+ghost use Rattle.cj_administration.specs.Administration.{ChecksSince, DisablesSince, EndsOrphanSince};
+ghost use Rattle.cj_administration.specs.Showing.{ShowsBackends};
+ghost use Rattle.cj_administration.specs.declared.administration.AdminError as admin;
 ghost use Rattle.cj_console.specs.Answers.{AnswersCommand, AnswersLine, AreRightDumps, ShowsAudit, ShowsText, answer_of_done, answer_of_number};
 ghost use Rattle.cj_console.specs.Steps.{CanObey, answer_of_unread};
 ghost use Rattle.cj_console.specs.declared.answer.Answer.TheVariants as answers;
 
 use crate::answer::Answer;
 use crate::shelved::{back_up, enable, enable_from};
+use cj_administration::abort_orphan;
 use cj_backend::Backend;
 use cj_commands::{Command, Unread, read_command};
 use cj_control::Control;
@@ -35,7 +36,7 @@ fn show_backends<J: Naming, B: Backend, S: Store + Drop, R: Wait>(
     ensures seen { HasSeenMore (pass_view pass.old.seat) (pass_view pass.new.seat) }
     ensures legal { IsLegal (front pass.new.seat) }
 {
-    let shown = control.show_backends(rt, pass);
+    let shown = cj_administration::show_backends(control, rt, pass);
     match shown {
         Ok(text) => Answer::Lines(text),
         Err(_) => Answer::NoMemory,
@@ -53,7 +54,7 @@ fn show_log<J: Naming, B: Backend, S: Store + Drop, R: Wait>(
     ensures seen { HasSeenMore (pass_view pass.old.seat) (pass_view pass.new.seat) }
     ensures legal { IsLegal (front pass.new.seat) }
 {
-    let shown = control.show_log(rt, pass, from, to);
+    let shown = cj_administration::show_log(control, rt, pass, from, to);
     match shown {
         Ok(text) => Answer::Lines(text),
         Err(_) => Answer::NoMemory,
@@ -66,7 +67,7 @@ fn show_cache<J: Naming, B: Backend, S: Store + Drop, R: Wait>(
 ) -> Answer
     ensures { (hits : ℕ) × (misses : ℕ) × (result ≡ answers.CacheCounts hits misses) }
 {
-    let (hits, misses) = control.show_cache(rt);
+    let (hits, misses) = cj_administration::show_cache(control, rt);
     Answer::CacheCounts(hits, misses)
 }
 
@@ -79,7 +80,7 @@ fn audit<J: Naming, B: Backend, S: Store + Drop, R: Wait>(
     ensures seen { HasSeenMore (pass_view pass.old.seat) (pass_view pass.new.seat) }
     ensures legal { IsLegal (front pass.new.seat) }
 {
-    let audited = control.audit(rt, pass);
+    let audited = cj_administration::audit(control, rt, pass);
     match audited {
         Ok(text) => Answer::Lines(text),
         Err(error) => Answer::Refused(error),
@@ -97,7 +98,7 @@ fn checkpoint<J: Naming, B: Backend, S: Store + Drop, R: Wait>(
     ensures seen { HasSeenMore (pass_view pass.old.seat) (pass_view pass.new.seat) }
     ensures legal { IsLegal (front pass.new.seat) }
 {
-    let marked = control.checkpoint(rt, pass, name);
+    let marked = cj_administration::checkpoint(control, rt, pass, name);
     match marked {
         Ok(number) => Answer::Number(number),
         Err(error) => Answer::Refused(error),
@@ -115,7 +116,7 @@ fn disable<J: Naming, B: Backend, S: Store + Drop, R: Wait>(
     ensures seen { HasSeenMore (pass_view pass.old.seat) (pass_view pass.new.seat) }
     ensures legal { IsLegal (front pass.new.seat) }
 {
-    let disabled = control.disable(rt, pass, b);
+    let disabled = cj_administration::disable(control, rt, pass, b);
     match disabled {
         Ok(()) => Answer::Done,
         Err(error) => Answer::Refused(error),
@@ -132,7 +133,7 @@ fn abort<J: Naming, B: Backend, S: Store + Drop, R: Wait>(
     ensures seen { HasSeenMore (pass_view pass.old.seat) (pass_view pass.new.seat) }
     ensures legal { IsLegal (front pass.new.seat) }
 {
-    let aborted = control.abort_orphan(rt, pass, tx);
+    let aborted = abort_orphan(control, rt, pass, tx);
     match aborted {
         Ok(number) => Answer::Number(number),
         Err(error) => Answer::Refused(error),

@@ -5,7 +5,7 @@ ghost use Rattle.cj_cluster.specs.History.Legality.{IsLegal};
 ghost use Rattle.cj_board.specs.Seats.{front, pass_view};
 ghost use Rattle.cj_pass.specs.Passes.{HasSeenMore};
 ghost use Rattle.cj_shelf.specs.Shelves.{SameShelf};
-ghost use Rattle.cj_locks.specs.Restoring.{IsRightDump};
+ghost use Rattle.cj_return_path.specs.Restoring.{IsRightDump};
 ghost use Rattle.cj_replay.specs.Reenabling.{Reenables};
 ghost use Rattle.cj_replay.specs.declared.reenabling.ReplayError as replay;
 ghost use Rattle.cj_console.specs.Answers.{AreRightDumps, BacksUpAndReenables, ReenablesFrom, answer_of_reenabling};

@@ -6,8 +6,8 @@ ghost use Rattle.cj_cluster.specs.Script.Lines.{with_line_feed};
 ghost use Rattle.cj_console.specs.Texts as texts;
 
 use crate::answer::Answer;
+use cj_administration::AdminError;
 use cj_backup::BackupError;
-use cj_control::AdminError;
 use cj_model::{Name, NoMemory};
 use cj_replay::ReplayError;
 use std::alloc::Global;

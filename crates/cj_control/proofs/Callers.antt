@@ -28,7 +28,7 @@ use Rattle.cj_locked.proofs.Reading.{read_leaves}
 use Rattle.cj_locked.proofs.Writing.{turn_refused}
 use Rattle.cj_place.specs.Layouts.{placement_of, Layout}
 use Rattle.cj_control.specs.Callers.{desk_at}
-use Rattle.cj_locks.specs.Writing.{least_after}
+use Rattle.cj_write_path.specs.Writing.{least_after}
 
 -- the position after a write is the entry's, if it has one
 pub least_none : (number least : ℕ) → number ≡ 0 → least ≡ least_after number least

@@ -1,5 +1,2 @@
-pub mod Administration
-pub mod Auditing
 pub mod Callers
-pub mod Showing
 pub mod Starting

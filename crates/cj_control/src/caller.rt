@@ -13,16 +13,17 @@ ghost use Rattle.cj_board.specs.Counting.{event_count_of};
 ghost use Rattle.cj_board.specs.Seats.{front, pass_view};
 ghost use Rattle.cj_pass.specs.Passes.{HasNotedMore, HasSeenMore, WasGiven};
 ghost use Rattle.cj_locked.specs.Writing.{AreUpTo};
-ghost use Rattle.cj_locks.specs.Writing.{least_after};
+ghost use Rattle.cj_write_path.specs.Writing.{least_after};
 
 use crate::control::Control;
 use cj_backend::Backend;
 use cj_book::OwnError;
 use cj_desk::{Desk, Written};
-use cj_locks::Query;
 use cj_model::{Act, Duplicate, Entry, NO_MEMORY, NoMemory, Refusal, Reply, Select, Text};
 use cj_outside::Store;
 use cj_pass::{Naming, Pass};
+use cj_read_path::{Query, read};
+use cj_write_path::write;
 use std::alloc::Global;
 use std::sync::{Arc, Wait};
 use thiserror::Error;
@@ -219,7 +220,7 @@ impl<'a, J: Naming, B: Backend, S: Store + Drop, R: Wait> Desk<R> for Caller<'a,
         let seq = self.queries + 1;
         match twice(self.control.locks.alloc, self.session, seq, user, tx, act) {
             Ok((entry, copy)) => {
-                let (number, reply) = self.control.locks.write(rt, &mut self.pass, entry, &copy);
+                let (number, reply) = write(&self.control.locks, rt, &mut self.pass, entry, &copy);
                 self.queries = seq;
                 self.least = least_after(number, self.least);
                 Written { number, reply }
@@ -242,7 +243,7 @@ impl<'a, J: Naming, B: Backend, S: Store + Drop, R: Wait> Desk<R> for Caller<'a,
             select,
             least: self.least,
         };
-        let (reply, least) = self.control.locks.read(rt, &mut self.pass, &query);
+        let (reply, least) = read(&self.control.locks, rt, &mut self.pass, &query);
         self.queries = seq;
         self.least = least;
         reply

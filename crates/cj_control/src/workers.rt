@@ -6,6 +6,7 @@ use crate::control::Control;
 use cj_backend::Backend;
 use cj_outside::Store;
 use cj_pass::Naming;
+use cj_write_path::work;
 use std::sync::Wait;
 
 impl<J: Naming, B: Backend, S: Store + Drop> Control<J, B, S> {
@@ -22,7 +23,7 @@ impl<J: Naming, B: Backend, S: Store + Drop> Control<J, B, S> {
     pub fn work<R: Wait>(&self, rt: &R, b: u8)
         requires below { b < length J.layout.names }
     {
-        self.locks.work(rt, b);
+        work(&self.locks, rt, b);
     }
 
     /// Has each worker end, once it has carried out what was posted to it.

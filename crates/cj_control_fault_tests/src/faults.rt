@@ -6,7 +6,7 @@ ghost use Rattle.cj_mem.specs.MemoryBackends.{fresh_state};
 
 use crate::clusters::play;
 use crate::steps::{DONE_0, Step};
-use cj_control::AdminError;
+use cj_administration::AdminError;
 use cj_flaky::Flaky;
 use cj_mem::MemBackend;
 use cj_model::ListOf;

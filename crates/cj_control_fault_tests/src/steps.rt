@@ -2,9 +2,10 @@
 
 ghost use Rattle.std.specs.Prelude.{◌≢◌, []};
 
+use cj_administration::{AdminError, audit, checkpoint, disable, show_backends};
 use cj_backend::Backend;
 use cj_cluster::SessionEnd;
-use cj_control::{AdminError, Control, Naming, Pass};
+use cj_control::{Control, Naming, Pass};
 use cj_model::{Name, NoMemory};
 use cj_outside::{FixedClock, ListDraw, MemSink, MemSource, MemStore};
 use cj_session::serve_session;
@@ -100,17 +101,17 @@ pub fn take<J: Naming, B: Backend + Drop, R: Wait + Abort>(
         Step::Session(talk) => serve(rt, alloc, control, pass, talk)?,
         Step::Disable(b, wanted) => {
             assert!(rt; *b < control.placement().count());
-            assert!(rt; control.disable(rt, pass, *b) == *wanted);
+            assert!(rt; disable(control, rt, pass, *b) == *wanted);
         }
         Step::Checkpoint(wanted) => {
-            assert!(rt; control.checkpoint(rt, pass, &name(rt)) == *wanted);
+            assert!(rt; checkpoint(control, rt, pass, &name(rt)) == *wanted);
         }
-        Step::Audit(lines) => match control.audit(rt, pass) {
+        Step::Audit(lines) => match audit(control, rt, pass) {
             Ok(text) => assert!(rt; text.as_slice() == *lines),
             Err(_) => panic!(rt; "no audit"),
         },
         Step::ShowBackends(lines) => {
-            assert!(rt; control.show_backends(rt, pass)?.as_slice() == *lines);
+            assert!(rt; show_backends(control, rt, pass)?.as_slice() == *lines);
         }
     }
     Ok(())

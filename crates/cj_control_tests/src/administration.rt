@@ -2,7 +2,7 @@
 
 use crate::clusters::play;
 use crate::steps::Step;
-use cj_control::AdminError;
+use cj_administration::AdminError;
 use cj_flaky::Flaky;
 use cj_mem::MemBackend;
 use cj_model::ListOf;

@@ -8,7 +8,7 @@ use crate::clusters::play;
 use crate::frames::Sent::Query;
 use crate::frames::{DONE_0, DONE_1, Talk};
 use crate::steps::Step;
-use cj_control::AdminError;
+use cj_administration::AdminError;
 use cj_flaky::Flaky;
 use cj_mem::MemBackend;
 use cj_model::ListOf;

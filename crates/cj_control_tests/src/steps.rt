@@ -5,9 +5,12 @@ ghost use Rattle.cj_model.specs.declared.limits.TheConstants.{REQUEST_LIMIT};
 ghost use Rattle.cj_desk.specs.DeskStates.{desk_tx};
 
 use crate::frames::Talk;
+use cj_administration::{
+    AdminError, abort_orphan, checkpoint, disable, show_backends, show_cache, show_log,
+};
 use cj_backend::Backend;
 use cj_cluster::SessionEnd;
-use cj_control::{AdminError, Caller, Control, Naming, Pass};
+use cj_control::{Caller, Control, Naming, Pass};
 use cj_desk::Desk;
 use cj_model::{Act, Name, NoMemory, Request, Text, USER_LIMIT};
 use cj_outside::{FixedClock, ListDraw, MemSink, MemSource, MemStore};
@@ -188,7 +191,7 @@ fn leave_open<J: Naming, B: Backend, R: Wait + Abort>(
         panic!(rt; "no session")
     };
     assert!(rt; begun(rt, alloc, &mut caller)? == tx);
-    assert!(rt; control.abort_orphan(rt, pass, tx) == Err(AdminError::NotOrphan(tx)));
+    assert!(rt; abort_orphan(control, rt, pass, tx) == Err(AdminError::NotOrphan(tx)));
     control.leave(rt, caller, pass);
     Ok(())
 }
@@ -211,7 +214,7 @@ fn audit<J: Naming, B: Backend, R: Wait + Abort>(
     pass: &mut Pass<J>,
     wanted: &Result<&[u8], AdminError>,
 ) {
-    match (control.audit(rt, pass), wanted) {
+    match (cj_administration::audit(control, rt, pass), wanted) {
         (Ok(text), Ok(lines)) => assert!(rt; text.as_slice() == *lines),
         (Err(error), Err(other)) => assert!(rt; error == *other),
         _ => panic!(rt; "another audit"),
@@ -240,23 +243,23 @@ where
         Step::LeaveOpen(tx) => leave_open(rt, alloc, control, pass, *tx)?,
         Step::Disable(b, wanted) => {
             assert!(rt; *b < control.placement().count());
-            assert!(rt; control.disable(rt, pass, *b) == *wanted);
+            assert!(rt; disable(control, rt, pass, *b) == *wanted);
         }
         Step::Checkpoint(wanted) => {
-            assert!(rt; control.checkpoint(rt, pass, &name(rt)) == *wanted);
+            assert!(rt; checkpoint(control, rt, pass, &name(rt)) == *wanted);
         }
         Step::AbortOrphan(tx, wanted) => {
-            assert!(rt; control.abort_orphan(rt, pass, *tx) == *wanted);
+            assert!(rt; abort_orphan(control, rt, pass, *tx) == *wanted);
         }
         Step::Audit(wanted) => audit(rt, control, pass, wanted),
         Step::ShowBackends(lines) => {
-            assert!(rt; control.show_backends(rt, pass)?.as_slice() == *lines);
+            assert!(rt; show_backends(control, rt, pass)?.as_slice() == *lines);
         }
         Step::ShowLog(first, last, lines) => {
-            assert!(rt; control.show_log(rt, pass, *first, *last)?.as_slice() == *lines);
+            assert!(rt; show_log(control, rt, pass, *first, *last)?.as_slice() == *lines);
         }
         Step::ShowCache(hits, misses) => {
-            assert!(rt; control.show_cache(rt) == (*hits, *misses));
+            assert!(rt; show_cache(control, rt) == (*hits, *misses));
         }
     }
     Ok(())

@@ -87,7 +87,7 @@ impl<J: Naming, B: Backend, S: Store + Drop> Locks<J, B, S> {
     }
 
     /// Returns how many entries the log has.
-    pub(crate) fn log_length<R: Wait>(&self, rt: &R, pass: &mut Pass<J>) -> u64
+    pub fn log_length<R: Wait>(&self, rt: &R, pass: &mut Pass<J>) -> u64
         ensures length { result ≡ length (log (front pass.new.seat)) }
         ensures more { HasNotedMore (pass_view pass.old.seat) (pass_view pass.new.seat) }
         ensures legal { IsLegal (front pass.new.seat) }
@@ -98,7 +98,7 @@ impl<J: Naming, B: Backend, S: Store + Drop> Locks<J, B, S> {
     }
 
     /// Whether the mask has the backend.
-    pub(crate) fn is_in(&self, mask: u32, b: u8) -> bool
+    pub fn is_in(&self, mask: u32, b: u8) -> bool
         requires below { b < length J.layout.names }
         ensures is { result ≡ in_mask mask b }
         ensures few { b < BACKEND_LIMIT }
@@ -109,7 +109,7 @@ impl<J: Naming, B: Backend, S: Store + Drop> Locks<J, B, S> {
     }
 
     /// Returns whether a backend is enabled.
-    pub(crate) fn is_enabled<R: Wait>(&self, rt: &R, pass: &mut Pass<J>, b: u8) -> bool
+    pub fn is_enabled<R: Wait>(&self, rt: &R, pass: &mut Pass<J>, b: u8) -> bool
         requires below { b < length J.layout.names }
         ensures is { result ≡ is_enabled (front pass.new.seat) b }
         ensures more { HasNotedMore (pass_view pass.old.seat) (pass_view pass.new.seat) }
@@ -120,7 +120,7 @@ impl<J: Naming, B: Backend, S: Store + Drop> Locks<J, B, S> {
     }
 
     /// Looks where a backend stands.
-    pub(crate) fn stand<R: Wait>(&self, rt: &R, pass: &mut Pass<J>, b: u8) -> Stand
+    pub fn stand<R: Wait>(&self, rt: &R, pass: &mut Pass<J>, b: u8) -> Stand
         requires below { b < length J.layout.names }
         ensures stands { Stands b (pass_view pass.new.seat) result }
         ensures more { HasNotedMore (pass_view pass.old.seat) (pass_view pass.new.seat) }

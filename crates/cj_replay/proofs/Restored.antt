@@ -10,9 +10,9 @@ use Rattle.cj_dump.specs.Coverage.{HasCoveredTables}
 use Rattle.cj_pass.specs.Passes.{HasNotedMore}
 use Rattle.cj_pass.proofs.Passes.{noted_self}
 use Rattle.cj_place.specs.Layouts.{Layout}
-use Rattle.cj_locks.specs.declared.restore.RestoreError.{RestoreError}
-use Rattle.cj_locks.specs.declared.restore.RestoreError.TheVariants as refused
-use Rattle.cj_locks.specs.Restoring.{EnablesSince, IsRightDump}
+use Rattle.cj_return_path.specs.declared.restore.RestoreError.{RestoreError}
+use Rattle.cj_return_path.specs.declared.restore.RestoreError.TheVariants as refused
+use Rattle.cj_return_path.specs.Restoring.{EnablesSince, IsRightDump}
 use Rattle.cj_locked_cell.proofs.Asking.{fault_between}
 use Rattle.cj_replay.specs.declared.reenabling.ReplayError.{ReplayError}
 use Rattle.cj_replay.specs.declared.reenabling.ReplayError.TheVariants as errors

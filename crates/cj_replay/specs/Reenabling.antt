@@ -11,9 +11,9 @@ use Rattle.cj_board.specs.declared.view.SeatView.{SeatView}
 use Rattle.cj_dump.specs.declared.dump.Dump.{Dump}
 use Rattle.cj_dump.specs.Coverage.{lacks}
 use Rattle.cj_locked_cell.specs.Asking.{NotesFault}
-use Rattle.cj_locks.specs.Restoring.{WasEnabled}
-use Rattle.cj_locks.specs.declared.restore.RestoreError.{RestoreError}
-use Rattle.cj_locks.specs.declared.restore.RestoreError.TheVariants as refused
+use Rattle.cj_return_path.specs.Restoring.{WasEnabled}
+use Rattle.cj_return_path.specs.declared.restore.RestoreError.{RestoreError}
+use Rattle.cj_return_path.specs.declared.restore.RestoreError.TheVariants as refused
 use Rattle.cj_replay.specs.declared.reenabling.ReplayError.{ReplayError}
 use Rattle.cj_replay.specs.declared.reenabling.ReplayError.TheVariants as errors
 

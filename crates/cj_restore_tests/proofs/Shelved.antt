@@ -14,7 +14,7 @@ use Rattle.cj_board.specs.declared.view.SeatView.{SeatView}
 use Rattle.cj_dump.specs.declared.dump.Dump.{Dump}
 use Rattle.cj_shelf.specs.Shelves.{first_of, is_shelved, KeepsDumps, ShelfState}
 use Rattle.cj_shelf.proofs.Bodies.{one_shelf}
-use Rattle.cj_locks.specs.Restoring.{IsRightDump}
+use Rattle.cj_return_path.specs.Restoring.{IsRightDump}
 use Rattle.cj_replay.proofs.Restored.{right_later}
 use Rattle.cj_backup.specs.declared.backing.BackupError.{BackupError}
 use Rattle.cj_backup.specs.declared.backing.BackupError.TheVariants as errors

@@ -5,10 +5,11 @@ ghost use mathlib.Core.List.{IsPrefix};
 ghost use Rattle.cj_model.specs.declared.limits.TheConstants.{REQUEST_LIMIT};
 ghost use Rattle.cj_board.specs.Seats.{front};
 ghost use Rattle.cj_desk.specs.DeskStates.{desk_tx};
-ghost use Rattle.cj_locks.specs.Restoring.{IsRightDump};
+ghost use Rattle.cj_return_path.specs.Restoring.{IsRightDump};
 
 use crate::gates::Flags;
 use crate::requests::request;
+use cj_administration::checkpoint;
 use cj_backend::Backend;
 use cj_backup::{BackupError, backup};
 use cj_control::{Control, Naming, Pass};
@@ -93,7 +94,7 @@ fn disable<J: Naming, B: Backend + Drop, R: Wait + Abort>(
     ensures { IsPrefix (front pass.old.seat) (front pass.new.seat) }
 {
     check_backend(rt, control, b);
-    assert!(rt; control.disable(rt, pass, b) == Ok(()));
+    assert!(rt; cj_administration::disable(control, rt, pass, b) == Ok(()));
 }
 
 /// Marks a checkpoint of this name, which no marker has.
@@ -105,7 +106,7 @@ fn mark<J: Naming, B: Backend + Drop, R: Wait + Abort>(
 )
     ensures { IsPrefix (front pass.old.seat) (front pass.new.seat) }
 {
-    let marked = control.checkpoint(rt, pass, &name(rt, text));
+    let marked = checkpoint(control, rt, pass, &name(rt, text));
     assert!(rt; marked.is_ok());
 }
 
@@ -118,7 +119,7 @@ fn audit<J: Naming, B: Backend + Drop, R: Wait + Abort>(
 )
     ensures { IsPrefix (front pass.old.seat) (front pass.new.seat) }
 {
-    let Ok(text) = control.audit(rt, pass) else {
+    let Ok(text) = cj_administration::audit(control, rt, pass) else {
         panic!(rt; "no audit")
     };
     assert!(rt; text.as_slice() == lines);

@@ -2,8 +2,9 @@
 
 use crate::lines::Lines;
 use crate::worker::{Stage, Worker};
+use cj_administration::{AdminError, abort_orphan};
 use cj_backend::Backend;
-use cj_control::{AdminError, Naming};
+use cj_control::Naming;
 use cj_model::{Name, NoMemory, Text};
 use cj_outside::{Draw, Store};
 use std::sync::Wait;
@@ -55,7 +56,7 @@ fn abort<J: Naming, B: Backend + Drop, S: Store + Drop, R: Wait>(
     worker: &mut Worker<J>,
     tx: u64,
 ) -> Result<(), NoMemory> {
-    let told = stage.control.abort_orphan(rt, &mut worker.pass, tx);
+    let told = abort_orphan(stage.control, rt, &mut worker.pass, tx);
     tell(&mut worker.lines, "abort", tx, told)
 }
 
@@ -86,7 +87,7 @@ fn checkpoint<J: Naming, B: Backend + Drop, S: Store + Drop, R: Wait>(
         Some(name) if !name.as_slice().is_empty() => name,
         _ => return Ok(()),
     };
-    let told = stage.control.checkpoint(rt, &mut worker.pass, &name);
+    let told = cj_administration::checkpoint(stage.control, rt, &mut worker.pass, &name);
     tell(&mut worker.lines, "checkpoint", number, told)
 }
 
@@ -100,7 +101,7 @@ fn disable<J: Naming, B: Backend + Drop, S: Store + Drop, R: Wait>(
     if b >= stage.control.placement().count() {
         return Ok(());
     }
-    let told = match stage.control.disable(rt, &mut worker.pass, b) {
+    let told = match cj_administration::disable(stage.control, rt, &mut worker.pass, b) {
         Ok(()) => Ok(0),
         Err(error) => Err(error),
     };
@@ -114,7 +115,7 @@ pub fn audit<J: Naming, B: Backend + Drop, S: Store + Drop, R: Wait>(
     worker: &mut Worker<J>,
     word: &str,
 ) -> Result<(), NoMemory> {
-    let told = stage.control.audit(rt, &mut worker.pass);
+    let told = cj_administration::audit(stage.control, rt, &mut worker.pass);
     worker.lines.add(word)?;
     match told {
         Ok(text) => {

@@ -1,6 +1,6 @@
 use Rattle.std.proofs.Common.{All, refl, sym, ◌∙◌, subst}
 use Rattle.cj_board.specs.Seats.{front}
-use Rattle.cj_locks.specs.Restoring.{IsRightDump}
+use Rattle.cj_return_path.specs.Restoring.{IsRightDump}
 use Rattle.cj_restore_tests.proofs.Shelved.{first_has, still_right}
 use Rattle.cj_restore_tests.proofs.steps.come_back_by.Goals as goal
 

@@ -1,7 +1,7 @@
 use Rattle.std.specs.Prelude.{◌≡◌, ◌<◌, ◌≤◌, All, length}
 use Rattle.cj_board.specs.Seats.{front}
 use Rattle.cj_desk.specs.DeskStates.{desk_tx}
-use Rattle.cj_locks.specs.Restoring.{IsRightDump}
+use Rattle.cj_return_path.specs.Restoring.{IsRightDump}
 use Rattle.cj_restore_tests.proofs.steps.take_all.Given as goal
 
 -- each dump may be loaded, the session's transaction is known, and no step asks for more than one request

@@ -8,7 +8,7 @@ use Rattle.cj_desk.specs.DeskStates.{next_call, turn_taken, DeskSteps, IsEntryNu
 use Rattle.cj_locked.specs.Writing.{AreUpTo, WritesTurn}
 use Rattle.cj_place.specs.Layouts.{placement_of}
 use Rattle.cj_control.specs.Callers.{desk_at}
-use Rattle.cj_locks.specs.Writing.{least_after}
+use Rattle.cj_write_path.specs.Writing.{least_after}
 use Rattle.cj_control.proofs.Callers.{owes_after, starved_counted, starved_turn, write_made, write_number, write_tx}
 use Rattle.cj_control.proofs.caller.CallerDesk.write.Goals as goal
 

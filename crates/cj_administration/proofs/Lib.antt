@@ -1,0 +1,3 @@
+pub mod Administering
+pub mod Auditing
+pub mod Showing

@@ -1,6 +1,0 @@
-use Rattle.std.proofs.Common.{refl, codes}
-use Rattle.cj_print.proofs.Texts.{ascii_text}
-use Rattle.cj_control.proofs.show.login_bytes.Goals as goal
-
-pub returns-in-None-clause-text : goal.returns-in-None-clause-text
-returns-in-None-clause-text c = ascii_text (codes "-") refl

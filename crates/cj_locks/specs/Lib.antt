@@ -1,4 +1,0 @@
-pub mod Dumping
-pub mod Reading
-pub mod Restoring
-pub mod Writing
