@@ -9,13 +9,13 @@ ghost use Rattle.cj_shelf.specs.Shelves.{is_shelved};
 ghost use Rattle.cj_pass.specs.Passes.{HasNotedMore};
 ghost use Rattle.cj_backup.specs.Backups.{BacksUp, MayRefuseBackup, IsBackupErrorOf, Puts};
 
-use cj_administration::{RestoreError, begin_dump};
 use cj_backend::Backend;
 use cj_control::Control;
 use cj_dump::Dump;
 use cj_model::Name;
 use cj_outside::Store;
 use cj_pass::{Naming, Pass};
+use cj_return_path::{RestoreError, begin_dump};
 use cj_shelf::{Shelf, ShelfError};
 use std::sync::Wait;
 use thiserror::Error;
@@ -109,7 +109,7 @@ pub fn backup<J: Naming, B: Backend, S: Store + Drop, D: Store, R: Wait>(
     if shelf.has(name) {
         return Err(BackupError::NameTaken);
     }
-    let begun = begin_dump(control, rt, pass, b, name);
+    let begun = begin_dump(&control.locks, rt, pass, b, name);
     match begun {
         Ok(dump) => put(shelf, &dump),
         Err(error) => Err(refusal_of(error)),

@@ -21,7 +21,7 @@ pub(crate) struct Emptied<J: Naming, B: Backend> {
 /// A cluster that threads share, at the board, the layout and the turn's ledger that `J` names.
 #[derive(Drop)]
 pub struct Control<J: Naming, B: Backend, S: Store> {
-    /// The calls of an administrator (`cj_administration`) go by them, too.
+    /// The calls of an administrator (`cj_administration`, `cj_return_path`) go by them, too.
     pub locks: Locks<J, B, S>,
     /// Behind a lock, so that threads may share a cluster of backends that only one of them uses at a time.
     pub(crate) emptied: Mutex<Emptied<J, B>>,

@@ -7,7 +7,6 @@ ghost use Rattle.cj_pass.specs.Passes.{HasNotedMore};
 ghost use Rattle.cj_return_path.specs.Restoring.{IsRightDump};
 ghost use Rattle.cj_replay.specs.Reenabling.{MayRefuseReenabling, IsReplayErrorOf, Reenables, RefusesReenabling};
 
-use cj_administration::{RestoreError, enable, load, replay};
 use cj_backend::Backend;
 use cj_control::Control;
 use cj_dump::Dump;
@@ -15,6 +14,7 @@ use cj_locked_cell::SeenOut;
 use cj_model::{EVENT_LIMIT, Name};
 use cj_outside::Store;
 use cj_pass::{Naming, Pass};
+use cj_return_path::{RestoreError, enable, load, replay};
 use std::sync::Wait;
 use thiserror::Error;
 
@@ -80,7 +80,7 @@ fn take_log<J: Naming, B: Backend, S: Store + Drop, R: Wait>(
     ensures more { HasNotedMore (pass_view pass.old.seat) (pass_view pass.new.seat) }
     ensures legal { IsLegal (front pass.new.seat) }
 {
-    let replayed = replay(control, rt, pass, b, EVENT_LIMIT);
+    let replayed = replay(&control.locks, rt, pass, b, EVENT_LIMIT);
     match replayed {
         Ok(_) => Ok(()),
         Err(error) => Err(refusal_of(error)),
@@ -102,7 +102,7 @@ fn load_and_take<J: Naming, B: Backend, S: Store + Drop, R: Wait>(
     ensures more { HasNotedMore (pass_view pass.old.seat) (pass_view pass.new.seat) }
     ensures legal { IsLegal (front pass.new.seat) }
 {
-    let loaded = load(control, rt, pass, b, dump);
+    let loaded = load(&control.locks, rt, pass, b, dump);
     match loaded {
         Ok(()) | Err(RestoreError::NotOut) => take_log(rt, control, pass, b),
         Err(error) => Err(refusal_of(error)),
@@ -156,7 +156,7 @@ pub fn reenable<J: Naming, B: Backend, S: Store + Drop, R: Wait>(
     if let Err(error) = caught {
         return Err(error);
     }
-    let enabled = enable(control, rt, pass, b);
+    let enabled = enable(&control.locks, rt, pass, b);
     match enabled {
         Ok(number) => Ok(number),
         Err(error) => Err(refusal_of(error)),
