@@ -1,6 +1,6 @@
 """Proves and builds the program `cjc`, and says on standard error how far that is. `demo`, the checks and `bench/run` get the program from here.
 
-It also compiles the load of `bench/`."""
+It also follows the proofs of the programs of `bench/`, and compiles its load."""
 import os
 import re
 import select
@@ -20,9 +20,9 @@ PATIENCE = 30
 LAST = 30
 
 
-def crates():
-    """The crates that are proved, in the order in which rt takes them: each after those that it stands on."""
-    with open(os.path.join(ROOT, "crates.txt"), encoding="utf-8") as lines:
+def crates(name="cjc", root=ROOT):
+    """The crates that are proved for one of a repository, in the order in which rt takes them: each after those that it stands on."""
+    with open(os.path.join(root, "crates.txt"), encoding="utf-8") as lines:
         rows = [line.partition(":") for line in lines if line.strip() and not line.startswith("#")]
     uses = {row[0].split()[0]: row[2].split() for row in rows}
     found = []
@@ -33,7 +33,7 @@ def crates():
                 add(low)
             found.append(name)
 
-    add("cjc")
+    add(name)
     return found
 
 
@@ -62,20 +62,26 @@ def clock():
     return say
 
 
-def started(words, **more):
-    """A run of rt with these words in the program's crate. It ends this run where there is no rt."""
+def started(words, cwd=CRATE, **more):
+    """A run of rt with these words in a crate's folder. It ends this run where there is no rt."""
     try:
-        return subprocess.Popen(["rt", *words], cwd=CRATE, **more)
+        return subprocess.Popen(["rt", *words], cwd=cwd, **more)
     except FileNotFoundError:
         sys.exit("no command `rt` on the PATH: it comes with the Rattle kit, in its folder bin/")
 
 
 def program():
     """The path of the program, which rt has proved and built. It ends this run where rt can't."""
-    names, say, now, last = crates(), clock(), "a first look at the sources", []
+    names, say = crates(), clock()
     say(f"proving and building the program, {len(names)} crates: over an hour where nothing is kept of them, on four processors")
     say("(./demo --unproved shows a session in minutes, without proofs)")
-    rt = started(["run", "--", "pipe", CONF], stdin=subprocess.DEVNULL, stdout=subprocess.PIPE, stderr=subprocess.STDOUT)
+    return built(CRATE, names, say, ["--", "pipe", CONF])
+
+
+def built(crate, names, say, words=()):
+    """The path of the program of a crate's folder, which rt has proved, built and run on these words. It says how far that is, and ends this run where rt can't."""
+    path, now, last = os.path.join(crate, "out", os.path.basename(crate)), "a first look at the sources", []
+    rt = started(["run", *words], crate, stdin=subprocess.DEVNULL, stdout=subprocess.PIPE, stderr=subprocess.STDOUT)
     for line in lines_of(rt.stdout):
         if line is None:
             say(f"{now} ..")
@@ -88,10 +94,10 @@ def program():
             say(f"{now}: {proved[1]} functions proved")
         elif line.startswith("rt: waiting"):
             say(line)
-    if rt.wait() != 0 or not os.path.exists(PROGRAM):
-        sys.exit("\n".join(["rt run failed in crates/cjc:", *last]))
+    if rt.wait() != 0 or not os.path.exists(path):
+        sys.exit("\n".join([f"rt run failed in crates/{os.path.basename(crate)}:", *last]))
     say("built")
-    return PROGRAM
+    return path
 
 
 def run_unproved(words, data, files):

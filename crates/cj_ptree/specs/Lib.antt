@@ -6,6 +6,5 @@ pub mod Branches
 pub mod Trees
 pub mod Walks
 pub mod Retained
-pub mod Kept
-pub mod KeptLends
+pub mod LinkLends
 pub mod SharedLends

@@ -1,6 +1,7 @@
-//! Links to nodes, which trees share.
+//! Links to nodes, which trees share, and to other values with several owners.
 
-ghost use Rattle.std.specs.Prelude.{◌≡◌, true, option_copied, IfOk, OnOk, OnErr};
+ghost use Rattle.std.specs.Prelude.{◌≡◌, true, option_copied, IfOk, IfSome, OnOk, OnErr};
+ghost use Rattle.std.specs.Borrow.{sem};
 ghost use Rattle.std.specs.BTreeMap.{is_at};
 ghost use Rattle.std.specs.Map.{lookup, remove_entry};
 ghost use Rattle.cj_ptree.specs.Links.{OwnsNode, target};
@@ -10,7 +11,7 @@ ghost use Rattle.cj_ptree.specs.Pairs as pair;
 use crate::added::Added;
 use crate::edit::Edit;
 use crate::node::Node;
-use cj_model::NoMemory;
+use cj_model::{Duplicate, NoMemory};
 use std::alloc::{AllocFailed, Global};
 use std::mem;
 use std::sync::Arc;
@@ -24,6 +25,8 @@ pub(crate) enum Link<N> {
 }
 
 impl<N> Link<N> {
+    ghost use Rattle.cj_ptree.specs.LinkLends.{LendsNode};
+
     /// The node.
     pub fn node(&self) -> &N
         ensures { result.now ≡ target self.now }
@@ -45,6 +48,29 @@ impl<N> Link<N> {
                 Link::Own(value)
             }
         }
+    }
+
+    /// The node, to be changed in place; none where others share it.
+    pub fn node_mut(&mut self) -> Option<&mut N>
+        ensures* lends { sem 𝓛 (LendsNode N.row self.entry result) }
+        ensures value { IfSome result (λ node. node.now ≡ target self.old) }
+    {
+        match self {
+            Link::Own(node) => Some(node),
+            Link::Shared(shared) => Arc::get_mut(shared),
+        }
+    }
+}
+
+impl<N: Duplicate + Drop> Link<N> {
+    /// Copies the node if others share it, so that it can be changed in place.
+    pub fn unshare(&mut self, alloc: Global) -> Result<(), NoMemory>
+        ensures { target self.new ≡ target self.old }
+    {
+        if !is_alone(self) {
+            *self = Link::of(alloc, self.node().copy(alloc)?);
+        }
+        Ok(())
     }
 }
 
@@ -74,7 +100,7 @@ pub(crate) fn share<K: Ord, V, N: Node<K, V>>(link: &mut Link<N>, alloc: Global)
     };
 }
 
-/// Whether no other tree shares the node.
+/// Whether no others share the node.
 fn is_alone<N>(link: &mut Link<N>) -> bool
     ensures { target link.new ≡ target link.old }
 {

@@ -1,6 +1,6 @@
 //! The tree.
 
-ghost use Rattle.std.specs.Prelude.{◌≡◌, [], filter, fold, option_copied, IfOk, IsOk, None, OnOk, OnErr};
+ghost use Rattle.std.specs.Prelude.{◌≡◌, [], filter, option_copied, IfOk, IsOk, None, OnOk, OnErr};
 ghost use Rattle.std.specs.BTreeMap.{insert_entry, is_at};
 ghost use Rattle.std.specs.List.Sorted.{IsStrictlySortedBy};
 ghost use Rattle.std.specs.Map.{keys_of, lookup, remove_entry};
@@ -122,20 +122,6 @@ impl<K: Ord + Duplicate + Drop, V: Duplicate + Drop> PTree<K, V> {
         ensures { result ≡ filter (λ e. is_lt (K.cmp e.0 key.now)) self.now }
     {
         PIter::before(self.root.node(), key)
-    }
-
-    /// Makes changes one after another, of which each puts a value at a key, or removes the key where it has none.
-    /// `NoMemory` leaves the map as it was.
-    pub fn change_all(&mut self, changes: Vec<(K, Option<V>)>) -> Result<(), NoMemory>
-        ensures ok { OnOk result (self.new ≡ fold (λ es c. with_change K.cmp es c.0 c.1) self.old changes.items) }
-        ensures err { OnErr result (self.new ≡ self.old) }
-    {
-        let mut changed = self.snapshot()?;
-        for (key, value) in changes {
-            changed.change(key, value)?;
-        }
-        *self = changed;
-        Ok(())
     }
 
     /// Puts a value at a key, or removes the key. `NoMemory` leaves the map as it was.

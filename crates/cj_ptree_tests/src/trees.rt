@@ -84,10 +84,11 @@ fn an_edit_leaves_a_snapshot(rt: HostRuntime) -> Result<(), Fail> {
 }
 
 #[test]
-fn many_changes_are_made_at_once(rt: HostRuntime) -> Result<(), Fail> {
+fn a_change_puts_or_removes(rt: HostRuntime) -> Result<(), Fail> {
     let mut tree = tree_of_three(rt.alloc())?;
-    let changes = vec![in rt.alloc(); (1, None), (4, Some(40)), (2, Some(21))]?;
-    tree.change_all(changes)?;
+    for (key, value) in [(1, None), (4, Some(40)), (2, Some(21))] {
+        tree.change(key, value)?;
+    }
     assert!(rt; tree.get(&2) == Some(&21) && tree.get(&4) == Some(&40));
     assert!(rt; keys_of(rt.alloc(), tree.iter())?.as_slice() == [2, 3, 4].as_slice());
     Ok(())

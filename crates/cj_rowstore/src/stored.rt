@@ -5,7 +5,7 @@ ghost use Rattle.cj_model.specs.Database.Steps.{aborted, committed, seen};
 ghost use Rattle.cj_model.specs.Database.Steps as steps;
 ghost use Rattle.cj_rowstore.specs.Lookups.{row_with_key, rows_from};
 ghost use Rattle.cj_rowstore.specs.RowEntries.{keyed};
-ghost use Rattle.cj_rowstore.specs.Stored.{IsChangeOf, KeepsKeys, changed_slot, rows_after, shown_draft};
+ghost use Rattle.cj_rowstore.specs.Stored.{IsChangeOf, KeepsKeys, changed_slot, rows_after};
 
 use crate::row_edit::RowEdit;
 use crate::row_map::RowMap;
