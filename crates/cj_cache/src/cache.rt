@@ -160,8 +160,8 @@ impl Cache {
     /// Looks up exactly this statement as `touch` does, and answers a share of its answer; `None` if none is kept.
     ///
     /// Under a lock a share is taken in constant time, and the rows are copied after. The answer stays readable when
-    /// the cache drops it. Fails only where the share of an answer that is kept can't be counted; the look-up is counted
-    /// all the same.
+    /// the cache drops it. Fails only where the share of an answer that is kept can't be counted; the look-up is
+    /// counted all the same.
     pub fn look_up(&mut self, select: &Select) -> Result<Option<SharedAnswer>, NoMemory>
         ensures shared { IfOk result (λ shared. option_map shared_parts shared ≡ option_map kept_parts (cached_entry select.now self.old.entries)) }
         ensures err { OnErr result (has_answer select.now self.old ≡ true) }

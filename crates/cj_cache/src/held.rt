@@ -44,8 +44,8 @@ pub fn answer_of<'a>(held: &'a LruCache<Select, Held>, select: &Select) -> Optio
     }
 }
 
-/// A share of the answer of the entry in front, in constant time; `None` if the map is empty. Fails only where the share
-/// can't be counted.
+/// A share of the answer of the entry in front, in constant time; `None` if the map is empty. Fails only where the
+/// share can't be counted.
 pub fn share_of_front(held: &LruCache<Select, Held>) -> Result<Option<SharedAnswer>, NoMemory>
     ensures { IfOk result (λ shared. option_map shared_parts shared ≡ option_map kept_parts (slice_get (entries_of_map held.now) 0)) }
 {

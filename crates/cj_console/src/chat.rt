@@ -121,11 +121,11 @@ fn write_answer<O: Sink>(alloc: Global, answer: &Answer, output: &mut O) -> Resu
     }
 }
 
-/// Takes lines from the source, carries out the command of each, and writes its answer, until a line `quit` is answered or
-/// the source ends. Whatever a line is, it gets one answer; a line that is no command changes nothing.
+/// Takes lines from the source, carries out the command of each, and writes its answer, until a line `quit` is answered
+/// or the source ends. Whatever a line is, it gets one answer; a line that is no command changes nothing.
 ///
-/// The dumps of the shelf are those of this cluster's log. At every end what was carried out stays. After `NoMemory` and
-/// `WriteFault` the last command may have been carried out with its answer written in part.
+/// The dumps of the shelf are those of this cluster's log. At every end what was carried out stays. After `NoMemory`
+/// and `WriteFault` the last command may have been carried out with its answer written in part.
 pub fn console<
     J: Naming,
     B: Backend + Drop,

@@ -29,8 +29,8 @@ use std::alloc::Global;
 use std::sync::ledger::Blank;
 use std::sync::{Condvar, Mutex};
 
-/// All memory that a start takes: a copy of the placement, the lanes of the backends' workers, and empty lists with room
-/// for the locks of the cells, and for the cells.
+/// All memory that a start takes: a copy of the placement, the lanes of the backends' workers, and empty lists with
+/// room for the locks of the cells, and for the cells.
 #[derive(Drop)]
 struct Room<J: Naming, B: Backend> {
     placement: Placement,

@@ -10,16 +10,16 @@ use cj_write_path::work;
 use std::sync::Wait;
 
 impl<J: Naming, B: Backend, S: Store + Drop> Control<J, B, S> {
-    /// Says whether a thread does the work of the worker of backend `b` from now on. Without one, whoever writes an entry
-    /// has that backend carry it out.
+    /// Says whether a thread does the work of the worker of backend `b` from now on. Without one, whoever writes an
+    /// entry has that backend carry it out.
     pub fn man(&self, b: u8, has_worker: bool)
         requires below { b < length J.layout.names }
     {
         self.locks.lanes[b as usize].man(has_worker);
     }
 
-    /// Does the work of the worker of backend `b`: has it carry out each entry that is posted to it, and reports that. The
-    /// thread sleeps while there is none. It returns once the workers were stopped.
+    /// Does the work of the worker of backend `b`: has it carry out each entry that is posted to it, and reports that.
+    /// The thread sleeps while there is none. It returns once the workers were stopped.
     pub fn work<R: Wait>(&self, rt: &R, b: u8)
         requires below { b < length J.layout.names }
     {

@@ -1,4 +1,5 @@
-//! Sessions in two threads: each reads what it wrote, reads are answered at the same time, and so are an entry's backends.
+//! Sessions in two threads: each reads what it wrote, reads are answered at the same time, and so are an entry's
+//! backends.
 
 ghost use Rattle.std.specs.Prelude.{◌≡◌};
 ghost use Rattle.cj_mem.specs.MemoryBackends.{fresh_state};

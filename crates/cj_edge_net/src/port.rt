@@ -34,9 +34,9 @@ const HOST_IS_DOWN: i32 = 112;
 
 /// A port that listens for TCP, and tells nothing of bytes.
 ///
-/// It gives each client once, and small replies leave at once (`TCP_NODELAY`). A read fails once a client has sent nothing
-/// for eight hours, and a write once it has taken nothing for five minutes. An error of the listener that passes by
-/// itself is no fault: the port waits for a moment and listens again. Any other error counts as a fault.
+/// It gives each client once, and small replies leave at once (`TCP_NODELAY`). A read fails once a client has sent
+/// nothing for eight hours, and a write once it has taken nothing for five minutes. An error of the listener that
+/// passes by itself is no fault: the port waits for a moment and listens again. Any other error counts as a fault.
 #[derive(Drop)]
 pub struct TcpPort {
     alloc: Global,

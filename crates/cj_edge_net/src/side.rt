@@ -7,8 +7,8 @@ use std::sync::Arc;
 
 /// A side of a connection. It shares the other side's socket, so a connection takes one file of the process.
 ///
-/// The socket is closed once both sides are let go. A write to a client that has gone is an error, and no signal. A call
-/// that was interrupted is made again: since the socket has limits of time, a stop of the process interrupts each.
+/// The socket is closed once both sides are let go. A write to a client that has gone is an error, and no signal. A
+/// call that was interrupted is made again: since the socket has limits of time, a stop of the process interrupts each.
 #[derive(Drop)]
 pub struct Side {
     stream: Arc<TcpStream, Global>,

@@ -9,11 +9,11 @@ use std::marker::Model;
 /// A backend that passes calls on to another one, except for those that are to fail.
 ///
 /// Calls of `begin`, `write`, `create`, `drop_table`, `commit`, `abort`, `ask`, `snapshot`, `contents` and
-/// `load` are numbered from 1 up to 2^64 - 1, where the number stays. A query of a snapshot is no such call. A call is to fail if and only if its number is
-/// listed or it is the next numbered call after `arm`. It then answers `Failed`, passes nothing on and
-/// counts one fault. If it is a change, a load among them, contracts do not see the contents until a load
-/// is carried out. Any other call gives what the inner backend gives, `Failed` included. Faults are counted
-/// together with those of the inner backend, up to 2^64 - 1. Where no number is listed, no more calls failed
+/// `load` are numbered from 1 up to 2^64 - 1, where the number stays. A query of a snapshot is no such call. A call is
+/// to fail if and only if its number is listed or it is the next numbered call after `arm`. It then answers `Failed`,
+/// passes nothing on and counts one fault. If it is a change, a load among them, contracts do not see the contents
+/// until a load is carried out. Any other call gives what the inner backend gives, `Failed` included. Faults are
+/// counted together with those of the inner backend, up to 2^64 - 1. Where no number is listed, no more calls failed
 /// here than the backend was armed.
 #[derive(Drop)]
 pub struct Flaky<B: Backend> {

@@ -290,8 +290,8 @@ impl<J: Naming, S: Store + Drop> LockedBook<J, S> {
         }
     }
 
-    /// Ends the open entry, whose writer this is, by what was tallied of it, and answers it. Each backend that was enabled
-    /// must have reported. The turn is there again.
+    /// Ends the open entry, whose writer this is, by what was tallied of it, and answers it. Each backend that was
+    /// enabled must have reported. The turn is there again.
     pub fn end(
         &mut self,
         board: &NamedBoard<J>,

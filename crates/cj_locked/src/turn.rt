@@ -33,8 +33,8 @@ impl<J: Naming> Ledger for TurnLedger<J> {
 
 /// The turn, of which there is one. Who has it has the recovery log too, so an append to that needs no lock.
 ///
-/// It can be neither dropped nor copied. So whoever has it gives it back to the book in the end, and nobody can stop all
-/// other writers by losing it.
+/// It can be neither dropped nor copied. So whoever has it gives it back to the book in the end, and nobody can stop
+/// all other writers by losing it.
 ///
 /// Its amount tells which events came that need the turn (`turn_amount`). So whoever has it knows that none came
 /// meanwhile: the open entry is still open, and the same backends are enabled.

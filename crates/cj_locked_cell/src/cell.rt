@@ -62,11 +62,11 @@ impl<J: Naming, B: Backend> LockedCell<J, B> {
         }
     }
 
-    /// Has backend `b` carry out or skip entry `n`, under this login, if this is its cell, and says what it did. The pass
-    /// has seen the entry, and has noted the rest then.
+    /// Has backend `b` carry out or skip entry `n`, under this login, if this is its cell, and says what it did. The
+    /// pass has seen the entry, and has noted the rest then.
     ///
-    /// A cell that stands elsewhere than before the entry reports that it ran out of memory. So does the cell of another
-    /// backend, in a branch that never runs.
+    /// A cell that stands elsewhere than before the entry reports that it ran out of memory. So does the cell of
+    /// another backend, in a branch that never runs.
     pub fn take(
         &mut self,
         board: &NamedBoard<J>,
@@ -124,9 +124,9 @@ impl<J: Naming, B: Backend> LockedCell<J, B> {
         report_of(&caught)
     }
 
-    /// Begins a query of transaction `tx`, 0 for none, at a position not below `least`, if it is the cell of backend `b`:
-    /// gives a snapshot that answers it, or its answer where the backend gives no snapshots. The cell of another backend
-    /// answers `Out`. The pass has heard of it then.
+    /// Begins a query of transaction `tx`, 0 for none, at a position not below `least`, if it is the cell of backend
+    /// `b`: gives a snapshot that answers it, or its answer where the backend gives no snapshots. The cell of another
+    /// backend answers `Out`. The pass has heard of it then.
     pub fn begin_read(
         &mut self,
         board: &NamedBoard<J>,

@@ -11,8 +11,8 @@ use std::alloc::Global;
 use std::marker::Model;
 use std::sync::Arc;
 
-/// A database, and the last snapshot of it while that is not out of date. So snapshots between two changes cost one count
-/// each, and a change finds shared only what a snapshot shows that is still held.
+/// A database, and the last snapshot of it while that is not out of date. So snapshots between two changes cost one
+/// count each, and a change finds shared only what a snapshot shows that is still held.
 #[derive(Drop)]
 pub(crate) struct SharedTables {
     tables: Tables,

@@ -10,8 +10,8 @@ use cj_table::Tables;
 use std::alloc::Global;
 use std::sync::Arc;
 
-/// What a backend in memory held at one moment. Its rows are shared with the backend and with other snapshots, until one
-/// of them changes them.
+/// What a backend in memory held at one moment. Its rows are shared with the backend and with other snapshots, until
+/// one of them changes them.
 #[derive(Drop)]
 pub struct MemSnap {
     alloc: Global,

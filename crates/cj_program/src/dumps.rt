@@ -8,8 +8,8 @@ use cj_shelf::ShelfError;
 use cj_top::write_bad_record;
 use std::alloc::Global;
 
-/// Answers the exit status of a command whose dumps were not opened. Where their bytes are no shelf's, the errors are told
-/// so. Where they fail in that, nothing else changes.
+/// Answers the exit status of a command whose dumps were not opened. Where their bytes are no shelf's, the errors are
+/// told so. Where they fail in that, nothing else changes.
 pub fn stop_at_dumps<E: Sink>(alloc: Global, error: ShelfError, errors: &mut E) -> u8
     ensures status { result ≡ status_of_shelf error }
     ensures told { TellsShelfRefusal (E.held errors.old) (E.held errors.new) (E.faults errors.old) (E.faults errors.new) error }

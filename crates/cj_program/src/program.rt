@@ -119,15 +119,15 @@ fn serve_command<
 /// `errors` where that can be done, and stay as they are. `pipe` ends with 12 where the log holds the last number of
 /// a session.
 ///
-/// `serve CONF ADDR` serves a session over each connection of the port, as many as the configuration says or any number.
-/// Meanwhile a console of the administrator takes commands from the input and writes their answers to the output. The
-/// backends go on from the recovery log, and dumps are kept in a store of their own. Where no thread can be made the
-/// console comes after the accepting. The status is 0 where all connections have come and been served and the console has
-/// ended, and 9 where the port failed. Bytes that are no dumps' are refused with 8 as those of a log are.
+/// `serve CONF ADDR` serves a session over each connection of the port, as many as the configuration says or any
+/// number. Meanwhile a console of the administrator takes commands from the input and writes their answers to the
+/// output. The backends go on from the recovery log, and dumps are kept in a store of their own. Where no thread can be
+/// made the console comes after the accepting. The status is 0 where all connections have come and been served and the
+/// console has ended, and 9 where the port failed. Bytes that are no dumps' are refused with 8 as those of a log are.
 ///
 /// Each command ends with 3 where the configuration is refused, which is told to `errors` where that can be done. It
-/// ends with 5 or 6 where the input or the output failed, with 7 where the configuration's store, the log's or that of the dumps did,
-/// with 11 where 2^62 bytes were taken, and with 1 for want of memory.
+/// ends with 5 or 6 where the input or the output failed, with 7 where the configuration's store, the log's or that of
+/// the dumps did, with 11 where 2^62 bytes were taken, and with 1 for want of memory.
 ///
 /// `--help`, alone or behind the word of a command, and `--version` write their text: 0 where it was written whole.
 /// With other words the status is 2, and nothing is touched.

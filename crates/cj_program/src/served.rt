@@ -30,7 +30,8 @@ use std::alloc::Global;
 use std::sync::{Arc, Wait};
 use std::thread::Threads;
 
-/// Makes so many empty backends in memory, whose contents contracts see only where they see the bytes of the dumps' store.
+/// Makes so many empty backends in memory, whose contents contracts see only where they see the bytes of the dumps'
+/// store.
 fn backends_beside<D: Store>(
     alloc: Global,
     count: u8,

@@ -9,8 +9,8 @@ use std::alloc::Global;
 use std::marker::Model;
 use std::sync::Arc;
 
-/// A value that several owners share, which costs one count for each. Contracts see the value. A change of it is seen by
-/// the owner alone who makes it.
+/// A value that several owners share, which costs one count for each. Contracts see the value. A change of it is seen
+/// by the owner alone who makes it.
 #[derive(Drop)]
 pub struct Shared<T> {
     link: Link<T>,
@@ -59,7 +59,8 @@ impl<T: Duplicate + Drop> Shared<T> {
         }
     }
 
-    /// The value, to be changed in place. It is copied first if it has other owners, and `NoMemory` leaves it as it was.
+    /// The value, to be changed in place. It is copied first if it has other owners, and `NoMemory` leaves it as it
+    /// was.
     pub fn edit(&mut self, alloc: Global) -> Result<&mut T, NoMemory>
         ensures* lends { sem 𝓛 (LendsShared T.row self.entry result) }
         ensures value { IfOk result (λ value. value.now ≡ self.old) }

@@ -1,4 +1,5 @@
-//! How a backend comes back beside work: it loads a dump if it is out, replays the log without the turn, and is enabled.
+//! How a backend comes back beside work: it loads a dump if it is out, replays the log without the turn, and is
+//! enabled.
 //!
 //! `reenable` composes calls of `cj_return_path` and takes no lock itself. Entries and queries go on meanwhile;
 //! only the last entries are replayed under the turn.

@@ -176,8 +176,8 @@ impl StoredTable {
         Ok(())
     }
 
-    /// This table after the commit of transaction `tx`, whose draft becomes the base. The same table again if `tx` has no
-    /// draft. No row is copied.
+    /// This table after the commit of transaction `tx`, whose draft becomes the base. The same table again if `tx` has
+    /// no draft. No row is copied.
     pub fn committed(&self, alloc: Global, tx: u64) -> Result<StoredTable, NoMemory>
         ensures { IfOk result (λ table. table ≡ committed tx self.now) }
     {

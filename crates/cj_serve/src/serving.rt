@@ -128,9 +128,9 @@ where
 /// Then it waits until all have ended.
 ///
 /// A connection for which there is no thread is served by the accepting thread, which accepts nobody until that
-/// connection ends. After the last connection came, the workers of the backends end. Each session has its own caller, its own pass, and random numbers of the seed with its number added.
-/// A client that gets no session is sent a refusal: 46 with the greatest session number if none is left, and 43 if
-/// memory ran out.
+/// connection ends. After the last connection came, the workers of the backends end. Each session has its own caller,
+/// its own pass, and random numbers of the seed with its number added. A client that gets no session is sent a refusal:
+/// 46 with the greatest session number if none is left, and 43 if memory ran out.
 ///
 /// `PortFault` is a fault that the port counted. `NoMemory` comes before a connection is accepted. At each end all
 /// sessions that were begun have ended, and the pass has what it had.

@@ -166,7 +166,8 @@ fn serve_at<
     Ok(end)
 }
 
-/// Serves so many connections of the port at a new cluster, in at most so many threads. Its log begins with these bytes.
+/// Serves so many connections of the port at a new cluster, in at most so many threads. Its log begins with these
+/// bytes.
 pub fn serve_at_new<R: Threads + Wait + Abort + Copy + Drop + Send + 'static, P: Port<R>>(
     rt: &R,
     alloc: Global,

@@ -17,7 +17,8 @@ pub(crate) trait Side<R> {
         ensures goes { goes self.old result self.new };
 }
 
-/// Has a side go in a new thread, and calls the other meanwhile. Where no thread can be made, the side goes after the call.
+/// Has a side go in a new thread, and calls the other meanwhile. Where no thread can be made, the side goes after the
+/// call.
 pub(crate) fn beside<R: Threads + Sync, X: Side<R, End = E> + Send, G: FnMut() -> F, E: Send, F>(
     rt: &R,
     side: &mut X,

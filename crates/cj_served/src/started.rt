@@ -116,9 +116,9 @@ where
     Ok(ends)
 }
 
-/// Starts a world of these parts and backends from the log, opens the shelf of the dumps' store, and has a console chat on
-/// the streams while sessions are served over so many connections of the port, 0 for any number. Returns how the console
-/// and the accepting ended.
+/// Starts a world of these parts and backends from the log, opens the shelf of the dumps' store, and has a console chat
+/// on the streams while sessions are served over so many connections of the port, 0 for any number. Returns how the
+/// console and the accepting ended.
 ///
 /// The dumps that the store keeps are of this log. On an error neither the streams nor the port were touched.
 pub fn serve_over<

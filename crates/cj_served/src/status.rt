@@ -18,8 +18,8 @@ fn status_of_console(end: ConsoleEnd) -> u8
     }
 }
 
-/// Returns the exit status: 9 if the port failed, and else that of the console's end. Where that is 0 and memory ran out
-/// for a connection, it is 1.
+/// Returns the exit status: 9 if the port failed, and else that of the console's end. Where that is 0 and memory ran
+/// out for a connection, it is 1.
 pub fn status_of_serving(accepting: ServeEnd, console: ConsoleEnd) -> u8
     ensures { result ≡ servings.status_of_serving accepting console }
 {

@@ -101,7 +101,8 @@ fn parts(rt: &impl Abort, alloc: Global) -> Result<Parts, NoMemory>
 /// How a cluster was served, or why it was not.
 pub type Outcome = Result<(ConsoleEnd, ServeEnd), Unserved<MemStore, MemStore>>;
 
-/// What a cluster is served over: the bytes of its log and of its dumps, at most so many threads, and so many connections.
+/// What a cluster is served over: the bytes of its log and of its dumps, at most so many threads, and so many
+/// connections.
 #[derive(Drop)]
 pub struct Setting {
     pub log: Vec<u8>,

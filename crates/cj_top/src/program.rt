@@ -202,8 +202,8 @@ fn write_text<O: Sink>(text: Result<String, NoMemory>, output: &mut O) -> u8
     }
 }
 
-/// Does all that the program does without threads, over the words after its name and what it is handed. Answers the exit
-/// status, and gives the log's store back.
+/// Does all that the program does without threads, over the words after its name and what it is handed. Answers the
+/// exit status, and gives the log's store back.
 ///
 /// `pipe CONF` serves one session from the input to the output, over new backends as the configuration has them. Its
 /// status is 0 where the session ended by a Quit or after a whole frame. It is 4 where the input ended inside a frame

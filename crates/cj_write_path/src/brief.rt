@@ -1,5 +1,5 @@
-//! Which entries a backend mostly carries out before a thread would have woken: each backend takes them in the session's
-//! thread. No contract depends on this. It decides who carries an entry out, and nothing of what comes of it.
+//! Which entries a backend mostly carries out before a thread would have woken: each backend takes them in the
+//! session's thread. No contract depends on this. It decides who carries an entry out, and nothing of what comes of it.
 
 use cj_model::{Act, Cmp, CondNode, Term, Write};
 

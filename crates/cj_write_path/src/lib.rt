@@ -4,8 +4,8 @@
 //! Promised: `write` is a turn of the session whose own pass it is given (`WritesTurn` of `cj_locked`). `carry_out`
 //! ends an entry that was scheduled, with the reply that its backends' reports make (`EndsSince`).
 //! No lock is held while another is taken, and none over an append.
-//! To change: `writes.rt` has the way of an entry, `lanes.rt` that over the workers. `brief.rt` says which entries go to
-//! no worker.
+//! To change: `writes.rt` has the way of an entry, `lanes.rt` that over the workers. `brief.rt` says which entries go
+//! to no worker.
 //! To read: `specs/Writing`, `cj_locked/specs/Writing`. Proofs begin in `proofs/Writing` and `proofs/Reporting`.
 #![tactic(auto)]
 

@@ -1,5 +1,5 @@
-//! The program: hands files, the standard streams, the clock and a port to `run` of `cj_program`, for the command that its
-//! words say, and to `explain` of `cj_explain`, which tells why it ended with an error.
+//! The program: hands files, the standard streams, the clock and a port to `run` of `cj_program`, for the command that
+//! its words say, and to `explain` of `cj_explain`, which tells why it ended with an error.
 //!
 //! Promised: all that `run` and `explain` promise, for what `cj_edge` tells of these objects. This file has no
 //! contract of its own; `checks/` tries the built program. To change: which store a command gets as its log is

@@ -109,8 +109,8 @@ pub fn parts_of(alloc: Global, conf: Conf) -> Result<Parts, NoMemory>
     })
 }
 
-/// Returns among how many first calls of backend `b` those are that fail. They are ever more, so that some backend fails
-/// soon on a slow machine, and some one late on a fast machine.
+/// Returns among how many first calls of backend `b` those are that fail. They are ever more, so that some backend
+/// fails soon on a slow machine, and some one late on a fast machine.
 fn tried_calls(b: u8) -> u64
     ensures { 0 < result }
 {
@@ -141,7 +141,8 @@ fn slow<R: Clock + Copy>(clock: R, task: Task, b: u8) -> Slow<R> {
     }
 }
 
-/// Draws the numbers of the calls of backend `b` that fail. There are none where nothing is to fail, and of the first one.
+/// Draws the numbers of the calls of backend `b` that fail. There are none where nothing is to fail, and of the first
+/// one.
 fn listed_fails(
     alloc: Global,
     draw: &mut PcgDraw,

@@ -1,12 +1,13 @@
 //! A program that tries a cluster that threads share, and measures one. `checks/stress` and `bench/control` run it.
 //!
-//! `stress` starts a cluster over the recovery log that lies in its folder. It serves sessions with random statements in
-//! threads of their own, while an administrator ends orphans, sets checkpoints, audits and disables a backend. It writes
-//! what each session sent and was sent: whoever reads that and the log can tell whether each reply is one database's.
-//! `bench` serves sessions that only read or only write, and writes how long each took. Both promise nothing of their own.
+//! `stress` starts a cluster over the recovery log that lies in its folder. It serves sessions with random statements
+//! in threads of their own, while an administrator ends orphans, sets checkpoints, audits and disables a backend. It
+//! writes what each session sent and was sent: whoever reads that and the log can tell whether each reply is one
+//! database's. `bench` serves sessions that only read or only write, and writes how long each took. Both promise
+//! nothing of their own.
 //!
-//! To change: what threads do is in `client.rt` and `administrator.rt`, a new kind of statement in `statements.rt`, a new
-//! measure in `measures.rt`. Words are in `tasks.rt`.
+//! To change: what threads do is in `client.rt` and `administrator.rt`, a new kind of statement in `statements.rt`, a
+//! new measure in `measures.rt`. Words are in `tasks.rt`.
 #![tactic(auto)]
 
 mod administrator;
