@@ -10,11 +10,11 @@ use prog.Atomic.{either}
 use Rattle.std.proofs.lemmas.List.Elements.{All-append, All-nil, All-contains}
 use Rattle.cj_board.proofs.Common.{Book, Cell, Event, IsLegal, Pass, Role, SeatView, event_count_of, log, set_else}
 use Rattle.atomic_table.specs.Table.{State, Me, step, keeps, stepped, Allows, Splits, Joins, opening}
-use Rattle.cj_cluster.proofs.Pushed.{legal_prefix, prefix_self, prefix_trans}
+use Rattle.cj_cluster.proofs.Pushed.{legal_prefix, prefix_length, prefix_self, prefix_trans}
 use Rattle.cj_board.specs.Points.{AtEachSeat, position_word, fault_word, max_word, fault_tokens_of, HasSeat, BeginsHistory, IsInLog, KnowsPosition, IsPositionNote, IsFaultNote, KnowsFaults, StandsAtEnd, CellStandsAtEnd, IsCountNote, KnowsGiven, CountsSessions, OwnPassesCount, IsKept, IsKeptBoard}
 use Rattle.cj_board.specs.Steps.{HasPositionNotes, HasFaultTokens, HasCountNotes, after_append, at_position, with_faults, after_looking, after_count, after_split, one_fault_more, longer_of, after_join, after_learning, after_making_cell, after_opening, after_closing}
 use Rattle.cj_board.specs.Views.{IsBook, IsCellOf, IsPass, IsNotBook, role_position, cells_made, book_with_cells, empty_pass, position_note_of, fault_note_of, count_note_of, pass_of, pass_without_tokens, own_pass_of, next_cell_of}
-use Rattle.cj_board.specs.Proving.Told.{ToldAppend, ToldAdvance, ToldStoredPosition, ToldPosition, ToldStoredFaults, ToldFaults, ToldFronts, ToldCell, ToldOfCell, ToldCountUp, ToldCount}
+use Rattle.cj_board.specs.Proving.Told.{ToldAppend, ToldAdvance, ToldStoredPosition, ToldPosition, ToldStoredFaults, ToldFaults, ToldFronts, ToldCell, ToldOfCell, ToldCountUp, ToldCount, ToldEvents}
 use Rattle.cj_board.proofs.Counts.{counts_of_prefix}
 use Rattle.cj_board.proofs.FaultPoint.{tokens-append}
 use Rattle.cj_board.proofs.EndPoint.{stands_first, stands_moved, stands_seen}
@@ -289,6 +289,13 @@ check_count_allowed n slots id me s k _ at _ =
     let less = counts_of_prefix me.0.own_session me.0.front k.history f.begins.0 in
     let is = o.1 in omega arith in
     (me.0, keeps, tt, loads n s k id 0 me.1 me.0 me.0 at f refl (same_all me.0), (refl, within))
+
+pub load_events_allowed : (n slots id : ℕ) (me : M) → Allows (IsKeptBoard n) slots id me 0 (λ x. x) (ToldEvents (step slots 0 0 0 none) me)
+load_events_allowed n slots id me s k _ at _ =
+    let f = fit_at n s k id me.0 at in
+    let short : length me.0.front ≤ length k.history = prefix_length me.0.front k.history f.begins.0 in
+    let all = k.kept.begin.count in
+    (me.0, keeps, tt, loads n s k id 0 me.1 me.0 me.0 at f refl (same_all me.0), (refl, omega arith))
 
 -- ---- views cut in two
 

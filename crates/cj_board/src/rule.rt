@@ -1,6 +1,6 @@
 // The rule of the board, and the kinds of step.
 ghost use Rattle.cj_board.specs.Points.{IsKeptBoard};
-ghost use Rattle.cj_board.specs.Proving.Told.{ToldAppend, ToldAdvance, ToldStoredPosition, ToldStoredFaults, ToldFaults, ToldPosition, ToldFronts, ToldCell, ToldCountUp, ToldCount};
+ghost use Rattle.cj_board.specs.Proving.Told.{ToldAppend, ToldAdvance, ToldStoredPosition, ToldStoredFaults, ToldFaults, ToldPosition, ToldFronts, ToldCell, ToldCountUp, ToldCount, ToldEvents};
 ghost use Rattle.cj_board.specs.Views.{book_with_cells, empty_pass, pass_of, pass_without_tokens, own_pass_of, next_cell_of};
 ghost use Rattle.cj_board.specs.Steps.{after_split, after_making_cell, after_join, after_learning, after_opening, after_closing};
 
@@ -74,6 +74,12 @@ pub struct CheckCount;
 
 impl Play<Event, SeatView> for CheckCount {
     ghost then = { ToldCount };
+}
+
+pub struct LoadEvents;
+
+impl Play<Event, SeatView> for LoadEvents {
+    ghost then = { ToldEvents };
 }
 
 /// Splits a pass off a seat, with its front, notes and tokens.

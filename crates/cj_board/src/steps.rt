@@ -12,7 +12,7 @@ ghost use Rattle.cj_board.specs.Views.{role_position, pass_of, pass_without_toke
 
 use crate::rule::{
     AdvancePosition, AppendEvent, CheckCell, CheckCount, CompareFronts, CountUp, JoinOwnPass,
-    SplitOwnPass, StorePosition,
+    LoadEvents, SplitOwnPass, StorePosition,
 };
 use crate::seats::{Board, BookSeat, CellSeat, Pass};
 use cj_cluster::Event;
@@ -244,6 +244,17 @@ impl Board {
     {
         let found = self.load_position(&mut p.seat, b);
         if found == u64::MAX { None } else { Some(found) }
+    }
+
+    /// Looks up how many events the history has at a moment of the call, none of which need be in front of the pass.
+    /// What the pass has seen is no longer. No view changes.
+    pub fn events(&self, p: &mut Pass) -> u64
+        requires board { pass_board p.old ≡ board_id self.now }
+        ensures board { pass_board p.new ≡ pass_board p.old }
+        ensures pass { pass_view p.new ≡ pass_view p.old }
+        ensures within { length (front p.old) ≤ result }
+    {
+        self.table.shared.load::<LoadEvents>(&mut p.seat, 0)
     }
 
     /// Raises the count of an own pass by one.

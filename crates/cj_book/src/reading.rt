@@ -1,6 +1,6 @@
 //! Calls that read a book and change nothing.
 
-ghost use Rattle.std.specs.Prelude.{◌≡◌, ◌↔◌, ◌-◌, ◌^◌, ◌<◌, ◌&&◌, ℕ, true, false, None, [], ◌∷◌, ◌++◌, length, slice_get, option_copied, IsNone, IfSome, IfOk, IsTrue};
+ghost use Rattle.std.specs.Prelude.{List, ◌≡◌, ◌↔◌, ◌-◌, ◌^◌, ◌<◌, ◌&&◌, ℕ, true, false, None, [], ◌∷◌, ◌++◌, length, slice_get, option_copied, IsNone, IfSome, IfOk, IsTrue};
 ghost use Rattle.std.specs.List.{list_any};
 ghost use Rattle.std.specs.Str.{bytes_eq};
 ghost use Rattle.cj_model.specs.Sql.PlainRequests.{request_of};
@@ -12,18 +12,20 @@ ghost use Rattle.cj_model.specs.declared.cached.Cached.{Cached};
 ghost use Rattle.cj_cluster.specs.declared.event.Event.{Event};
 ghost use Rattle.cj_cluster.specs.History.Histories as histories;
 ghost use Rattle.cj_cluster.specs.History.Histories.{log, is_free, tx_of};
+ghost use Rattle.cj_cluster.specs.History.Freshness.{touches};
 ghost use Rattle.cj_cluster.specs.History.Legality.{IsFitEntry};
 ghost use Rattle.cj_cluster.specs.History.Answering.{HasServer, HasNoServer};
+ghost use Rattle.cj_book.specs.Touching.{has_table};
 ghost use Rattle.cj_book.specs.Books as books;
 ghost use Rattle.cj_book.specs.Books.{placement_at, has_session, is_candidate, is_target, Checks, HasRoom, IsPrepared};
 
 use crate::book::Book;
 use crate::error::BookError;
 use crate::pending::Prepared;
-use crate::touching::touched_behind;
+use crate::touching::{self, touched_behind};
 use cj_cluster::BoxedEntry;
 use cj_log::LogMarker;
-use cj_model::{Act, Answer, BACKEND_LIMIT, EVENT_LIMIT, Entry, Name, NoMemory, Select, has_bit};
+use cj_model::{Act, Answer, BACKEND_LIMIT, EVENT_LIMIT, Entry, Name, NoMemory, Select, TableSet, has_bit};
 use cj_place::Placement;
 use cj_usage::written;
 
@@ -281,6 +283,21 @@ impl Book {
         ensures { option_copied result ≡ answer_kept select.now self.now.state.cache }
     {
         self.cache.kept(select)
+    }
+
+    /// Returns the tables that entry `n + 1` of the log touches.
+    pub fn touched_by(&self, n: u64) -> Result<TableSet, NoMemory>
+        requires { n < length (log self.now.state.history) }
+        ensures { IfOk result (λ set. (table : List ℕ) → has_table set table ≡ touches (log self.now.state.history) n table) }
+    {
+        touching::touched_by(self, self.alloc, n)
+    }
+
+    /// Returns how many answers the cache keeps at most.
+    pub fn cache_capacity(&self) -> u32
+        ensures { result ≡ self.now.state.cache.capacity }
+    {
+        self.cache.capacity()
     }
 
     /// Returns true only if the cache keeps no answer that it is given.

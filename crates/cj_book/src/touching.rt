@@ -72,6 +72,17 @@ pub fn touched_behind(
     }
 }
 
+/// The tables that entry `n + 1` of the log touches.
+pub fn touched_by(book: &Book, alloc: Global, n: u64) -> Result<TableSet, NoMemory>
+    requires { n < length (log book.now.state.history) }
+    ensures { IfOk result (λ set. (table : List ℕ) → has_table set table ≡ freshness.touches (log book.now.state.history) n table) }
+{
+    match book.entry_of(n as usize) {
+        Some(entry) => touched_behind(book, alloc, n, entry.tx, &entry.act),
+        None => Ok(TableSet::new(alloc)),
+    }
+}
+
 /// Whether entry `n + 1` of the log touches a table that the query needs.
 fn touches_query(book: &Book, alloc: Global, n: u64, select: &Select) -> Result<bool, NoMemory>
     requires { n < length (log book.now.state.history) }

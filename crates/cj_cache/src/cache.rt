@@ -198,6 +198,25 @@ impl Cache {
         drop_needing(&mut self.held, &mut self.by_table, set);
     }
 
+    /// Drops every answer. It takes no memory.
+    #[tactic(auto, using(crate::proofs::ByTable::none_listed))]
+    pub fn clear(&mut self)
+        ensures { self.new ≡ record self.old { entries = [] } }
+    {
+        match &mut self.held {
+            None => {}
+            Some(held) => held.clear(),
+        }
+        self.by_table.clear();
+    }
+
+    /// The most answers that the cache keeps.
+    pub fn capacity(&self) -> u32
+        ensures { result ≡ self.now.capacity }
+    {
+        self.capacity
+    }
+
     /// Whether the cache never keeps anything, so that no answer need be copied for it.
     pub fn keeps_none(&self) -> bool
         ensures { result ≡ true → (e : Cached) → after_keep e self.now ≡ self.now }

@@ -1,6 +1,6 @@
 //! The board that `J` names, and what threads carry from lock to lock.
 
-ghost use Rattle.std.specs.Prelude.{◌≡◌, ◌≤◌, ◌<◌};
+ghost use Rattle.std.specs.Prelude.{◌≡◌, ◌≤◌, ◌<◌, length};
 ghost use mathlib.Core.List.{IsPrefix};
 ghost use Rattle.cj_board.specs.Counting.{event_count_of};
 ghost use Rattle.cj_board.specs.Seats.{board_id, front, pass_board, pass_view};
@@ -79,6 +79,14 @@ impl<J: Naming> NamedBoard<J> {
     {
         let Pass { seat, .. } = other;
         self.board.rejoin(&mut pass.seat, seat);
+    }
+
+    /// Looks up how many events the history has at a moment of the call. What the pass has seen is no longer.
+    pub fn events(&self, pass: &mut Pass<J>) -> u64
+        ensures same { pass_view pass.new.seat ≡ pass_view pass.old.seat }
+        ensures within { length (front pass.old.seat) ≤ result }
+    {
+        self.board.events(&mut pass.seat)
     }
 
     /// Shows that the session of an own pass has no more events, in what the pass has seen, than it has counted.

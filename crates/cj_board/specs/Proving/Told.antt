@@ -1,6 +1,6 @@
 -- What a step at a word tells the seat that makes it. `st` is the step, `m` the seat before, `n` the number found,
 -- and `m'` the seat after.
-use Rattle.std.specs.Prelude.{◌≡◌, ◌≢◌, ℕ, ◌+◌, ◌*◌, ◌<◌, ◌≤◌, Contains}
+use Rattle.std.specs.Prelude.{◌≡◌, ◌≢◌, ℕ, ◌+◌, ◌*◌, ◌<◌, ◌≤◌, length, Contains}
 use mathlib.Core.Option.{some}
 use mathlib.Core.List.{IsPrefix}
 use Rattle.atomic_table.specs.Table.{Me, Step}
@@ -56,3 +56,7 @@ ToldCountUp st m n m' = m' ≡ (after_count m.0, m.1)
 -- the session of an own pass has no more events than were counted
 abbrev pub ToldCount : StepNow → SeatNow → ℕ → SeatNow → Type 0
 ToldCount st m n m' = (m' ≡ m) × (0 < m.0.own_session → event_count_of m.0.own_session m.0.front ≤ m.0.count)
+
+-- the seat has seen no more events than there are
+abbrev pub ToldEvents : StepNow → SeatNow → ℕ → SeatNow → Type 0
+ToldEvents st m n m' = (m' ≡ m) × (length m.0.front ≤ n)
