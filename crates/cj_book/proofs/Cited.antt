@@ -15,7 +15,7 @@ pub use Rattle.cj_book.proofs.Owned.{came_gives, closed_out, entry_counts, failu
 pub use Rattle.cj_book.proofs.Pendings.{entry_ready, kept_for_none, marker_ready, pending_idle}
 pub use Rattle.cj_book.proofs.Recovering.{follows_opening, greatest_within, keeps_opened, none_logged, none_scheduled, recovers_same, recovers_sched}
 pub use Rattle.cj_book.proofs.Scheduling.{begins_full, begins_wanting, begun, marker_begun, marks, scheduled, unbegun, unchecked, unmarked, unprepared}
-pub use Rattle.cj_book.proofs.Serving.{candidates_more, mask_below, served_by_some, servers_of}
+pub use Rattle.cj_book.proofs.Serving.{mask_below, served_by_some, servers_of}
 pub use Rattle.cj_book.proofs.Starting.{Begins, items_refused}
 pub use Rattle.cj_book.proofs.Written.{none_written, put_has, written_more}
 pub use Rattle.cj_book.specs.declared.counter.Counter.{Counter}

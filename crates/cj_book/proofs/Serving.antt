@@ -33,20 +33,6 @@ served_by_some p h r mask fits some is _ =
     let q = and_parts (is_enabled h bit.0) (hosts_all p bit.0 (needs r)) (sym (is bit.0) ∙ bit.2) in
     (bit.0, (q.0, q.1))
 
--- ---- candidates
-
-and_more : (a b c : Bool) → ((a && b) && c) ≡ (a && (b && c))
-and_more true b c = refl
-and_more false b c = refl
-
--- one more table that a candidate hosts
-pub candidates_more : (p : Placement) (on : Bool) (tables : List (List ℕ)) (i : ℕ) (table : List ℕ) (mask hosting b : ℕ) → i < length tables → table ≡ get_or tables i table → in_mask mask b ≡ (on && hosts_all p b (take i tables))
-    → in_mask hosting b ≡ hosts p b table → in_mask (bit_and mask hosting) b ≡ (on && hosts_all p b (take (i + 1) tables))
-candidates_more p on tables i table mask hosting b lt is so_far there =
-    has-and mask hosting b
-    ∙ (rw (so_far, there) (and_more on (hosts_all p b (take i tables)) (hosts p b table))
-    ∙ ap (λ x. on && x) (sym (list_all_more (hosts p b) tables i table lt ∙ ap (λ t. hosts_all p b (take i tables) && hosts p b t) (sym is))))
-
 -- what is picked of candidates that are all below 16 is below 16
 pub picked_below : (mask b : ℕ) → mask < 2 ^ 16 → in_mask mask b ≡ true → b < 16
 picked_below mask b lt there =

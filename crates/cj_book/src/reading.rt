@@ -183,11 +183,7 @@ impl Book {
         ensures hosts { (b : ℕ) → in_mask result b ≡ is_candidate self.now.state tables.now b }
         ensures below { result < 2 ^ BACKEND_LIMIT }
     {
-        let mut mask = self.enabled;
-        for table in tables {
-            mask &= self.placement.hosts(table);
-        }
-        mask
+        self.placement.hosting(self.enabled, tables)
     }
 
     /// Returns the mask of the open entry's targets: the enabled backends that it concerns. 0 if no entry is open.

@@ -1,6 +1,6 @@
 //! Placements of tables on backends.
 
-ghost use Rattle.std.specs.Prelude.{◌≡◌, ◌<◌, ◌≤◌, [], ◌∷◌, ℕ, All, Some, filter, find, fold, length, map, option_copied, position, slice_get, true, IfOk, OnOk, OnErr};
+ghost use Rattle.std.specs.Prelude.{◌≡◌, ◌<◌, ◌≤◌, ◌&&◌, [], ◌∷◌, ℕ, All, Some, filter, find, fold, length, map, option_copied, position, slice_get, true, IfOk, OnOk, OnErr};
 ghost use Rattle.std.specs.Str.{bytes_eq};
 ghost use Rattle.cj_model.specs.Cluster.Masks.{in_mask};
 ghost use Rattle.cj_model.specs.Cluster.Placements as placements;
@@ -149,6 +149,17 @@ impl Placement {
             return first_bits(self.names.len());
         }
         mask_at(self.rows.as_slice(), table)
+    }
+
+    /// The backends of a mask that host each of the tables.
+    pub fn hosting(&self, mask: u32, tables: &[Name]) -> u32
+        ensures { (b : ℕ) → in_mask result b ≡ (in_mask mask b && hosts_all (placement_of self.now) b tables.now) }
+    {
+        let mut left = mask;
+        for table in tables {
+            left &= self.hosts(table);
+        }
+        left
     }
 
     fn is_host(&self, b: u8, table: &Name) -> bool
