@@ -4,6 +4,7 @@ pub mod Counters
 pub mod Events
 pub mod Found
 pub mod Kept
+pub mod News
 pub mod Pendings
 pub mod Refusals
 pub mod Seated
