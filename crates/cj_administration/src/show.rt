@@ -311,5 +311,5 @@ pub fn show_cache<J: Naming, B: Backend, S: Store + Drop, R: Wait>(
     control: &Control<J, B, S>,
     rt: &R,
 ) -> (u64, u64) {
-    control.locks.book.lock(rt).cache_counts()
+    control.locks.cache_counts(rt)
 }

@@ -25,7 +25,9 @@ use crate::pending::Prepared;
 use crate::touching::{self, touched_behind};
 use cj_cluster::BoxedEntry;
 use cj_log::LogMarker;
-use cj_model::{Act, Answer, BACKEND_LIMIT, EVENT_LIMIT, Entry, Name, NoMemory, Select, TableSet, has_bit};
+use cj_model::{
+    Act, Answer, BACKEND_LIMIT, EVENT_LIMIT, Entry, Name, NoMemory, Select, TableSet, has_bit,
+};
 use cj_place::Placement;
 use cj_usage::written;
 

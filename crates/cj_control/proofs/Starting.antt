@@ -12,7 +12,6 @@ use Rattle.cj_book.specs.BookLogs.{BookLogState}
 use Rattle.cj_book.specs.Seated.{GivesOwnPassesOnly, SeatedBook}
 use Rattle.cj_cluster.specs.declared.event.Event.{Event}
 use Rattle.cj_cluster.specs.declared.event.Event.TheVariants.{Enabled, Ended, Marker, Sched}
-use Rattle.cj_cluster.specs.History.Freshness.{IsFreshCache}
 use Rattle.cj_cluster.specs.History.Histories.{database_after, is_enabled, is_free, log}
 use Rattle.cj_cluster.proofs.Pushed.{prefix_trans}
 use Rattle.cj_cluster.specs.Moves.Moves.{entry_numbered, user_of}
@@ -88,9 +87,6 @@ module _ {S : Type 0} (tells logged : Bool) (count : S → ℕ) (id pass : Table
 
   pub started_gives : GivesOwnPassesOnly b
   started_gives = of.apart.gives of.numbers
-
-  pub started_fresh : IsFreshCache tells (log b.state.history) b.state.cache
-  started_fresh = rw (of.apart.book.history, of.apart.book.cache) of.fresh
 
   -- no session was given an own pass, so none has a number that is not in the history
   pub started_noted : LastIsNoted b.view

@@ -193,11 +193,6 @@ impl<J: Naming, B: Backend, S: Store + Drop> Control<J, B, S> {
             .lock(rt)
             .close(&self.locks.board, session, own);
     }
-
-    /// Returns the hits and the misses that the result cache has counted.
-    fn cache_counts<R: Wait>(&self, rt: &R) -> (u64, u64) {
-        self.locks.book.lock(rt).cache_counts()
-    }
 }
 
 impl<'a, J: Naming, B: Backend, S: Store + Drop, R: Wait> Desk<R> for Caller<'a, J, B, S> {
@@ -254,7 +249,7 @@ impl<'a, J: Naming, B: Backend, S: Store + Drop, R: Wait> Desk<R> for Caller<'a,
     }
 
     fn stats(&mut self, rt: &R) -> (u64, u64) {
-        self.control.cache_counts(rt)
+        self.control.locks.cache_counts(rt)
     }
 
     fn session(&self) -> u64 {

@@ -1,11 +1,12 @@
 //! How a cluster that threads share is made of a world that has started, and how it is taken apart.
 
-ghost use Rattle.std.specs.Prelude.{◌≡◌, ◌≤◌, All, IfErr, IfOk, IfSome, length, vec_capacity};
+ghost use Rattle.std.specs.Prelude.{◌≡◌, ◌<◌, ◌≤◌, ◌+◌, ◌/◌, [], All, IfErr, IfOk, IfSome, length, vec_capacity};
 ghost use mathlib.Core.List.{IsPrefix};
 ghost use Rattle.cj_model.specs.declared.limits.TheConstants.{BACKEND_LIMIT};
 ghost use Rattle.cj_board.specs.Seats.{board_id, front, pass_board, pass_view};
 ghost use Rattle.cj_board.specs.Steps.{after_join};
 ghost use Rattle.cj_board.specs.Views.{pass_without_tokens};
+ghost use Rattle.cj_book.specs.News.{IsHeard};
 ghost use Rattle.cj_cluster.specs.History.Legality.{IsLegal};
 ghost use Rattle.cj_place.specs.Layouts.{placement_of};
 ghost use Rattle.cj_replica.specs.Seated.{SeatedCell};
@@ -15,6 +16,9 @@ ghost use Rattle.cj_control.specs.Starting.{AreOfStarted, FallTo, HoldFrom, IsCu
 
 use crate::control::{Control, Emptied};
 use cj_backend::Backend;
+use cj_book::Heard;
+use cj_cache::Cache;
+use cj_cache_shard::CacheShard;
 use cj_locked::{LockedBook, Turn};
 use cj_locked_cell::LockedCell;
 use cj_locks::Locks;
@@ -29,12 +33,20 @@ use std::alloc::Global;
 use std::sync::ledger::Blank;
 use std::sync::{Condvar, Mutex};
 
-/// All memory that a start takes: a copy of the placement, the lanes of the backends' workers, and empty lists with
-/// room for the locks of the cells, and for the cells.
+/// The most answers that are kept in one shard, where the one goes that was used before all others. A greater cache
+/// has `SHARD_COUNT` shards, and in each the one goes that was used before the others there.
+const LONE_SHARD_LIMIT: u32 = 1024;
+
+const SHARD_COUNT: u32 = 16;
+
+/// All memory that a start takes: a copy of the placement, the lanes of the backends' workers, empty caches for the
+/// shards of the result cache, and empty lists with room for the locks of the cells and of the shards, and for the cells.
 #[derive(Drop)]
 struct Room<J: Naming, B: Backend> {
     placement: Placement,
     lanes: Vec<WorkLane<J>>,
+    caches: Vec<Cache>,
+    shards: Vec<Mutex<CacheShard<J>>>,
     locks: Vec<Mutex<LockedCell<J, B>>>,
     unlocked: Vec<LockedCell<J, B>>,
 }
@@ -50,20 +62,75 @@ fn lanes<J: Naming>(alloc: Global, count: usize) -> Result<Vec<WorkLane<J>>, NoM
     Ok(lanes)
 }
 
-/// Takes the memory of a start with so many cells.
+/// Returns in how many shards so many answers are kept.
+fn shard_count(capacity: u32) -> u32 {
+    match capacity {
+        0 => 0,
+        1..=LONE_SHARD_LIMIT => 1,
+        _ => SHARD_COUNT,
+    }
+}
+
+/// Returns how many of the answers shard `number` keeps at most. Together they keep `capacity`.
+fn shard_capacity(capacity: u32, count: u32, number: u32) -> u32
+    requires { number < count }
+    ensures { result ≤ capacity / count + 1 }
+{
+    capacity / count + u32::from(number < capacity % count)
+}
+
+/// Makes the empty caches of the shards, which keep so many answers together.
+fn caches(alloc: Global, capacity: u32) -> Result<Vec<Cache>, NoMemory>
+    ensures { IfOk result (λ caches. All (λ c. c.entries ≡ []) caches.items) }
+{
+    let count = shard_count(capacity);
+    let mut caches = Vec::new(alloc);
+    for number in 0..count {
+        caches.push(Cache::new(alloc, shard_capacity(capacity, count, number))?)?;
+    }
+    Ok(caches)
+}
+
+/// Makes the shards of these caches, each behind a lock, which have heard of what the pass has seen.
+fn sharded<J: Naming>(
+    board: &NamedBoard<J>,
+    pass: &mut Pass<J>,
+    heard: Heard,
+    mut caches: Vec<Cache>,
+    mut shards: Vec<Mutex<CacheShard<J>>>,
+) -> Vec<Mutex<CacheShard<J>>>
+    requires legal { IsLegal (front pass.old.seat) }
+    requires heard { IsHeard (front pass.old.seat) heard }
+    requires empty { All (λ c. c.entries ≡ []) caches.items }
+    requires room { length shards.items + length caches.items ≤ vec_capacity shards }
+    ensures same { pass_view pass.new.seat ≡ pass_view pass.old.seat }
+{
+    while let Some(cache) = caches.pop() {
+        shards.push_reserved(Mutex::new(CacheShard::new(board, pass, cache, heard)));
+    }
+    shards
+}
+
+/// Takes the memory of a start with so many cells and a result cache of so many answers.
 fn reserve<J: Naming, B: Backend + Drop>(
     alloc: Global,
     placement: &Placement,
     cells: usize,
+    capacity: u32,
 ) -> Result<Room<J, B>, NoMemory>
     ensures placement { IfOk result (λ room. room.placement ≡ placement.now) }
     ensures lanes { IfOk result (λ room. length room.lanes.items ≡ cells) }
     ensures empty { IfOk result (λ room. (length room.locks.items ≡ 0) × (length room.unlocked.items ≡ 0)) }
     ensures room { IfOk result (λ room. (cells ≤ vec_capacity room.locks) × (cells ≤ vec_capacity room.unlocked)) }
+    ensures caches { IfOk result (λ room. All (λ c. c.entries ≡ []) room.caches.items) }
+    ensures shards { IfOk result (λ room. length room.shards.items + length room.caches.items ≤ vec_capacity room.shards) }
 {
+    let caches = caches(alloc, capacity)?;
     Ok(Room {
         placement: placement.copy(alloc)?,
         lanes: lanes(alloc, cells)?,
+        shards: Vec::with_capacity(alloc, caches.len())?,
+        caches,
         locks: Vec::with_capacity(alloc, cells)?,
         unlocked: Vec::with_capacity(alloc, cells)?,
     })
@@ -168,18 +235,19 @@ impl<J: Naming, B: Backend + Drop, S: Store + Drop> Control<J, B, S> {
             emptied,
             ..
         } = shared;
-        let Ok(room) = reserve(alloc, book.placement(), cells.len()) else {
+        let Ok(room) = reserve(alloc, book.placement(), cells.len(), book.cache_capacity()) else {
             return Err((NoMemory, recovery_log.into_log()));
         };
         let (ledger, share) = blank.open();
         let board = NamedBoard::new(board);
         let mut pass = Pass::new(pass);
         let mut book = LockedBook::new(book, ledger, Turn::new(share, recovery_log));
-        book.tell(&board, &mut pass);
+        let heard = book.heard(&board, &mut pass);
+        let shards = sharded(&board, &mut pass, heard, room.caches, room.shards);
         let locks = Locks {
             alloc,
             board,
-            keeps: !book.keeps_none(),
+            shards,
             counts_reads: book.counts_reads(),
             book: Mutex::new(book),
             turn_back: Condvar::new(),

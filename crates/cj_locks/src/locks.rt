@@ -18,15 +18,17 @@ ghost use Rattle.cj_locked.specs.Turns.{turn_amount};
 
 use cj_auth::Accounts;
 use cj_backend::Backend;
+use cj_cache_shard::CacheShard;
 use cj_locked::{LockedBook, Turn};
 use cj_locked_cell::{LockedCell, Stand};
-use cj_model::{Db, has_bit};
+use cj_model::{Db, Select, has_bit};
 use cj_outside::Store;
 use cj_pass::{NamedBoard, Naming, Pass};
 use cj_place::Placement;
 use cj_replica::CellError;
 use cj_workers::WorkLane;
 use std::alloc::Global;
+use std::hash::{BuildHasher, BuildHasherDefault, FoldHasher};
 use std::sync::{Condvar, Mutex, MutexGuard, Wait};
 
 /// The book and the cells of a cluster, each behind a lock, at the board, the layout and the turn's ledger that `J`
@@ -48,8 +50,8 @@ pub struct Locks<J: Naming, B: Backend, S: Store> {
     pub lanes: Vec<WorkLane<J>>,
     pub placement: Placement,
     pub accounts: Accounts,
-    /// Whether the result cache keeps answers.
-    pub keeps: bool,
+    /// The result cache. A query has its answer in one of them, by its hash. None where nothing is kept.
+    pub shards: Vec<Mutex<CacheShard<J>>>,
     /// Whether the balancer's policy counts the reads that are pending.
     pub counts_reads: bool,
     ghost laid: { placement ≡ J.layout },
@@ -95,6 +97,29 @@ impl<J: Naming, B: Backend, S: Store + Drop> Locks<J, B, S> {
         let mut book = self.book.lock(rt);
         book.tell(&self.board, pass);
         book.length()
+    }
+
+    /// Returns the shard of the result cache that may keep the answer of a query. None where nothing is kept.
+    pub fn shard_of(&self, select: &Select) -> Option<&Mutex<CacheShard<J>>> {
+        if self.shards.is_empty() {
+            return None;
+        }
+        let hash = BuildHasherDefault::<FoldHasher>::new().hash_one(select);
+        // A shard finds a query by the low bits of the same hash.
+        let number = (hash >> 32) % self.shards.len() as u64;
+        self.shards.get(number as usize)
+    }
+
+    /// Returns the hits and the misses that the result cache has counted.
+    pub fn cache_counts<R: Wait>(&self, rt: &R) -> (u64, u64) {
+        let mut hits = 0u64;
+        let mut misses = 0u64;
+        for shard in &self.shards {
+            let (found, absent) = shard.lock(rt).counts();
+            hits = hits.saturating_add(found);
+            misses = misses.saturating_add(absent);
+        }
+        (hits, misses)
     }
 
     /// Whether the mask has the backend.

@@ -26,7 +26,8 @@ use Rattle.cj_board.specs.Counting.{event_count_of}
 use Rattle.cj_locked.specs.declared.failure.ReadFailure.TheVariants as failure
 use Rattle.cj_locked.specs.declared.look.Look.{Look}
 use Rattle.cj_locked.specs.Failures.{FailsSince}
-use Rattle.cj_locked.specs.Looking.{AreAllTried, IsLookAt, IsOwedAt, IsRightAt}
+use Rattle.cj_book.specs.News.{IsOwedAt, IsRightAt}
+use Rattle.cj_locked.specs.Looking.{AreAllTried, IsLookAt}
 use Rattle.cj_pass.specs.Passes.{HasSeenMore}
 use Rattle.cj_locked_cell.specs.Answering.{GivesAnswerAt}
 use Rattle.cj_locked.specs.Reading.{call_of_query, answered, full, in_vain, kept, refused, starved, unserved, EndsRead}
@@ -171,8 +172,12 @@ some_weaker P Q f (Some x) h = f x h
 some_weaker P Q f None h = tt
 
 -- a look, of which more is known
-pub look_is : (t u : Bool) (p : Placement) (h : List Event) (tx : ℕ) (select : Select) (least tried : ℕ) (x y : Look) → t ≡ u → x ≡ y → IsLookAt t p h tx select least tried x → IsLookAt u p h tx select least tried y
-look_is t u p h tx select least tried x y told is looked = subst (λ (l : Look). IsLookAt u p h tx select least tried l) is (subst (λ (k : Bool). IsLookAt k p h tx select least tried x) told looked)
+pub look_is : (p : Placement) (h : List Event) (select : Select) (least tried : ℕ) (x y : Look) → x ≡ y → IsLookAt p h select least tried x → IsLookAt p h select least tried y
+look_is p h select least tried x y is looked = subst (λ (l : Look). IsLookAt p h select least tried l) is looked
+
+-- what is right where backends tell so, by another word for that
+pub right_told : (t u : Bool) (p : Placement) (h : List Event) (tx : ℕ) (select : Select) (answer : Answer) (n : ℕ) → t ≡ u → IsRightAt t p h tx select answer n → IsRightAt u p h tx select answer n
+right_told t u p h tx select answer n told right = subst (λ (k : Bool). IsRightAt k p h tx select answer n) told right
 
 -- ---- the whole
 

@@ -10,10 +10,12 @@ ghost use Rattle.cj_model.specs.declared.request.Request.TheVariants as request;
 ghost use Rattle.cj_model.specs.Cluster.Masks.{in_mask};
 ghost use Rattle.cj_model.specs.Cluster.Placements.{hosts_all};
 ghost use Rattle.cj_model.specs.Database.Inserts.{refusal_of_code};
+ghost use Rattle.cj_model.specs.Database.Outcomes.{IsAnswer};
 ghost use Rattle.cj_model.specs.Sql.WrittenRequests.{IsWritten};
 ghost use Rattle.cj_model.specs.Wire.Replies.{asked_reply};
 ghost use Rattle.cj_cluster.specs.declared.event.Event.{Event};
 ghost use Rattle.cj_cluster.specs.History.Answering.{CanServe};
+ghost use Rattle.cj_cluster.specs.History.Freshness.{IsAnswerAt};
 ghost use Rattle.cj_cluster.specs.History.Histories.{log, tx_of};
 ghost use Rattle.cj_cluster.specs.History.Legality.{IsLegal};
 ghost use Rattle.cj_cluster.specs.History.Turns.{Turn};
@@ -22,14 +24,17 @@ ghost use Rattle.cj_board.specs.Counting.{event_count_of};
 ghost use Rattle.cj_board.specs.Points.{fault_tokens_of};
 ghost use Rattle.cj_board.specs.Seats.{front, pass_view};
 ghost use Rattle.cj_locked.specs.Failures.{FailsSince};
-ghost use Rattle.cj_locked.specs.Looking.{IsLookAt, IsOwedAt};
+ghost use Rattle.cj_book.specs.News.{IsOwedAt};
+ghost use Rattle.cj_cache_shard.specs.declared.shard.Found.TheVariants.{Kept};
+ghost use Rattle.cj_cache_shard.specs.Shards.{IsFound};
 ghost use Rattle.cj_pass.specs.Passes.{HasNotedMore, HasSeenMore};
 ghost use Rattle.cj_locked_cell.specs.Answering.{GivesAnswerAt, IsReadAnswer, IsReading};
 ghost use Rattle.cj_locked.specs.Reading.{call_of_query, EndsRead};
 ghost use Rattle.cj_locked.specs.Writing.{AreUpTo};
-ghost use Rattle.cj_read_path.specs.Reading.{HaveFailedSince, IsAttempt};
+ghost use Rattle.cj_read_path.specs.Reading.{HaveFailedSince, IsAttempt, IsSoughtAt};
 
 use cj_backend::{Backend, Snap};
+use cj_cache_shard::{CacheShard, Found};
 use cj_locked::{LockedBook, Look, ReadFailure};
 use cj_locked_cell::Reading;
 use cj_locks::Locks;
@@ -41,7 +46,7 @@ use cj_outside::Store;
 use cj_pass::{Naming, Pass};
 use cj_replica::CellReadError;
 use std::alloc::Global;
-use std::sync::Wait;
+use std::sync::{Arc, Mutex, Wait};
 
 /// A query of a session.
 #[derive(Drop)]
@@ -66,6 +71,15 @@ pub(crate) struct Tries {
     pub later: u32,
     /// Whether the next look is the first.
     pub first: bool,
+}
+
+/// Where a query is answered.
+#[derive(Drop)]
+pub(crate) enum Sought {
+    /// The result cache keeps this answer. It is right at this position of the log.
+    Kept(Arc<Answer, Global>, u64),
+    /// What a look at the book gave.
+    Looked(Look),
 }
 
 /// What came of asking one backend.
@@ -105,8 +119,92 @@ fn copied(alloc: Global, select: &Select, rows: &Answer, at: u64) -> Result<Cach
     Ok(Cached { select, answer, at })
 }
 
-/// Looks where the query may be answered, but for the backends of the mask, which were tried. The first look may
-/// find its answer in the cache.
+/// Looks the query up in a shard of the result cache.
+fn look_up<J: Naming, B: Backend, S: Store + Drop, R: Wait>(
+    locks: &Locks<J, B, S>,
+    rt: &R,
+    shard: &Mutex<CacheShard<J>>,
+    pass: &mut Pass<J>,
+    query: &Query<'_>,
+) -> Result<Found, NoMemory>
+    requires owes { query.now.least ≤ length (log (front pass.old.seat)) }
+    ensures found { IfOk result (IsFound J.tells (placement_of J.layout) (front pass.new.seat) query.now.select.now query.now.least) }
+    ensures more { HasNotedMore (pass_view pass.old.seat) (pass_view pass.new.seat) }
+{
+    shard.lock(rt).look_up(
+        &locks.board,
+        pass,
+        &locks.placement,
+        query.select,
+        query.least,
+    )
+}
+
+/// Tells a shard of the result cache, which knows so many entries, the news of the book.
+fn catch_up<J: Naming, B: Backend, S: Store + Drop, R: Wait>(
+    locks: &Locks<J, B, S>,
+    rt: &R,
+    shard: &Mutex<CacheShard<J>>,
+    pass: &mut Pass<J>,
+    entries: u64,
+) -> Result<(), NoMemory>
+    ensures more { HasNotedMore (pass_view pass.old.seat) (pass_view pass.new.seat) }
+{
+    let news = locks.book.lock(rt).news(&locks.board, pass, entries)?;
+    shard.lock(rt).catch_up(&locks.board, pass, &news);
+    Ok(())
+}
+
+/// Looks the query up in a shard that was behind, once this has heard the news. Where it is behind again, or memory is
+/// wanting, nothing is found.
+fn look_up_again<J: Naming, B: Backend, S: Store + Drop, R: Wait>(
+    locks: &Locks<J, B, S>,
+    rt: &R,
+    shard: &Mutex<CacheShard<J>>,
+    pass: &mut Pass<J>,
+    query: &Query<'_>,
+    entries: u64,
+) -> Option<(Arc<Answer, Global>, u64)>
+    requires owes { query.now.least ≤ length (log (front pass.old.seat)) }
+    ensures kept { IfSome result (λ kept. IsFound J.tells (placement_of J.layout) (front pass.new.seat) query.now.select.now query.now.least (Kept kept.0 kept.1)) }
+    ensures more { HasNotedMore (pass_view pass.old.seat) (pass_view pass.new.seat) }
+{
+    if catch_up(locks, rt, shard, pass, entries).is_err() {
+        return None;
+    }
+    match look_up(locks, rt, shard, pass, query) {
+        Ok(Found::Kept(answer, at)) => Some((answer, at)),
+        Ok(Found::Absent | Found::Behind(_)) | Err(_) => None,
+    }
+}
+
+/// Looks the query up in the result cache, where it has not been yet, outside transactions. None where no answer is
+/// kept, or memory is wanting for a share of it.
+fn find_kept<J: Naming, B: Backend, S: Store + Drop, R: Wait>(
+    locks: &Locks<J, B, S>,
+    rt: &R,
+    pass: &mut Pass<J>,
+    query: &Query<'_>,
+    first: bool,
+) -> Option<(Arc<Answer, Global>, u64)>
+    requires owes { query.now.least ≤ length (log (front pass.old.seat)) }
+    ensures outside { IfSome result (λ kept. query.now.tx ≡ 0) }
+    ensures kept { IfSome result (λ kept. IsFound J.tells (placement_of J.layout) (front pass.new.seat) query.now.select.now query.now.least (Kept kept.0 kept.1)) }
+    ensures more { HasNotedMore (pass_view pass.old.seat) (pass_view pass.new.seat) }
+{
+    if !first || query.tx != 0 {
+        return None;
+    }
+    let shard = locks.shard_of(query.select)?;
+    match look_up(locks, rt, shard, pass, query) {
+        Ok(Found::Kept(answer, at)) => Some((answer, at)),
+        Ok(Found::Behind(entries)) => look_up_again(locks, rt, shard, pass, query, entries),
+        Ok(Found::Absent) | Err(_) => None,
+    }
+}
+
+/// Looks where the query may be answered: at its first look by the result cache, and else by a backend, but for those
+/// of the mask, which were tried.
 fn look_for<J: Naming, B: Backend, S: Store + Drop, R: Wait>(
     locks: &Locks<J, B, S>,
     rt: &R,
@@ -114,21 +212,21 @@ fn look_for<J: Naming, B: Backend, S: Store + Drop, R: Wait>(
     query: &Query<'_>,
     tried: u32,
     first: bool,
-) -> Result<Look, NoMemory>
+) -> Sought
     requires owes { query.now.least ≤ length (log (front pass.old.seat)) }
-    ensures look { IfOk result (IsLookAt J.tells (placement_of J.layout) (front pass.new.seat) query.now.tx query.now.select.now query.now.least tried) }
+    ensures sought { IsSoughtAt J.tells (placement_of J.layout) (front pass.new.seat) query.now.tx query.now.select.now query.now.least tried result }
     ensures more { HasNotedMore (pass_view pass.old.seat) (pass_view pass.new.seat) }
     ensures legal { IsLegal (front pass.new.seat) }
 {
-    locks.book.lock(rt).look_for(
-        &locks.board,
-        pass,
-        query.tx,
-        query.select,
-        query.least,
-        tried,
-        first,
-    )
+    match find_kept(locks, rt, pass, query, first) {
+        Some((answer, at)) => Sought::Kept(answer, at),
+        None => Sought::Looked(
+            locks
+                .book
+                .lock(rt)
+                .look_for(&locks.board, pass, query.select, query.least, tried),
+        ),
+    }
 }
 
 /// Begins the query at backend `b`, at a position not below `owed`. The answer `Out` also stands for a backend that is
@@ -204,7 +302,7 @@ fn copy_for_cache<J: Naming, B: Backend, S: Store + Drop>(
 ) -> Option<Cached>
     ensures { IfSome result (λ copy. (query.now.tx ≡ 0) × (copy.select ≡ query.now.select.now) × (asked.Rows copy.answer ≡ answer.now) × (copy.at ≡ at)) }
 {
-    if !locks.keeps || query.tx != 0 {
+    if locks.shards.is_empty() || query.tx != 0 {
         return None;
     }
     let Asked::Rows(rows) = answer else {
@@ -216,8 +314,30 @@ fn copy_for_cache<J: Naming, B: Backend, S: Store + Drop>(
     }
 }
 
-/// Notes that a read has ended at backend `b`, which answered at position `at`, and gives the cache a copy. The
-/// copy is made while no lock is held. Whether the cache keeps it changes nothing of the reply.
+/// Gives a copy of the query and its answer to the shard of the result cache that may keep it. Whether it is kept
+/// changes nothing of the reply.
+fn keep<J: Naming, B: Backend, S: Store + Drop, R: Wait>(
+    locks: &Locks<J, B, S>,
+    rt: &R,
+    pass: &mut Pass<J>,
+    query: &Query<'_>,
+    copy: Cached,
+)
+    requires possible { IsAnswer copy.answer }
+    requires within { copy.at ≤ length (log (front pass.old.seat)) }
+    requires right { J.tells ≡ true → IsAnswerAt (log (front pass.old.seat)) copy.at copy.select (asked.Rows copy.answer) }
+    ensures same { pass_view pass.new.seat ≡ pass_view pass.old.seat }
+{
+    match locks.shard_of(query.select) {
+        Some(shard) => {
+            let _kept = shard.lock(rt).keep(&locks.board, pass, copy);
+        }
+        None => {}
+    }
+}
+
+/// Notes that a read has ended at backend `b`, which answered at position `at`, and gives the result cache a copy. The
+/// copy is made while no lock is held.
 fn end_answered<J: Naming, B: Backend, S: Store + Drop, R: Wait>(
     locks: &Locks<J, B, S>,
     rt: &R,
@@ -230,18 +350,12 @@ fn end_answered<J: Naming, B: Backend, S: Store + Drop, R: Wait>(
     requires below { b < BACKEND_LIMIT }
     requires hosts { hosts_all (placement_of J.layout) b query.now.select.now.tables ≡ true }
     requires gives { (owed : ℕ) × GivesAnswerAt B.tells (placement_of J.layout) b query.now.tx query.now.select.now owed (pass_view pass.old.seat) answer.now at }
-    requires legal { IsLegal (front pass.old.seat) }
-    ensures more { HasNotedMore (pass_view pass.old.seat) (pass_view pass.new.seat) }
-    ensures legal { IsLegal (front pass.new.seat) }
+    ensures same { pass_view pass.new.seat ≡ pass_view pass.old.seat }
 {
+    end_read(locks, rt, b);
     match copy_for_cache(locks, query, answer, at) {
-        Some(copy) => {
-            let _kept = locks
-                .book
-                .lock(rt)
-                .end_read_keeping(&locks.board, pass, b, copy);
-        }
-        None => end_read(locks, rt, b),
+        Some(copy) => keep(locks, rt, pass, query, copy),
+        None => {}
     }
 }
 
@@ -446,11 +560,12 @@ fn round<J: Naming, B: Backend, S: Store + Drop, R: Wait>(
     let looked = look_for(locks, rt, pass, query, tried, tries.first);
     tries.first = false;
     match looked {
-        Ok(Look::Kept(answer, at)) => Some(reply_kept(locks, query, &answer, at)),
-        Ok(Look::Ask(b, owed)) => try_at(locks, rt, pass, query, tries, b, owed),
-        Ok(Look::Tried(serving)) => tried_all(locks, rt, query, tries, serving),
-        Ok(Look::Unserved) => Some((Reply::Refused(Refusal::of_code(NO_BACKEND)), query.least)),
-        Err(_) => Some((Reply::Refused(Refusal::of_code(NO_MEMORY)), query.least)),
+        Sought::Kept(answer, at) => Some(reply_kept(locks, query, &answer, at)),
+        Sought::Looked(Look::Ask(b, owed)) => try_at(locks, rt, pass, query, tries, b, owed),
+        Sought::Looked(Look::Tried(serving)) => tried_all(locks, rt, query, tries, serving),
+        Sought::Looked(Look::Unserved) => {
+            Some((Reply::Refused(Refusal::of_code(NO_BACKEND)), query.least))
+        }
     }
 }
 

@@ -5,8 +5,8 @@ use Rattle.cj_cluster.specs.History.Histories.{database_after, log}
 use Rattle.cj_board.specs.Seats.{front}
 use Rattle.cj_read_path.proofs.reads.end_answered.Goals as goal
 
-pub end_read_keeping-kept-requires-clause-right : goal.end_read_keeping-kept-requires-clause-right
-end_read_keeping-kept-requires-clause-right g c = λ on.
+pub keep-requires-clause-right : goal.keep-requires-clause-right
+keep-requires-clause-right g c = λ on.
     let entries = log (front c.args.pass.now.seat) in
     let copy = c.in-Some.ensures in
     let says = c.requires.gives.1.says (sym c.args.locks.now.told ∙ on) c.requires.hosts in

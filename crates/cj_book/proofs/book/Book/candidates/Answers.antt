@@ -13,6 +13,6 @@ pub returns-clause-below : goal.returns-clause-below
 returns-clause-below c =
     mask_below c.hosting.result (λ b there.
     let on : is_enabled c.args.self.now.state.history b ≡ true = subst (λ (s : SeatedBook). is_enabled s.state.history b ≡ true) c.self.view_is
-        (sym (c.self.invariant.0.history.mask b) ∙ (and_parts (in_mask c.self.inside.enabled b) _ (sym (c.hosting.ensures b) ∙ there)).0) in
+    (sym (c.self.invariant.0.history.mask b) ∙ (and_parts (in_mask c.self.inside.enabled b) _ (sym (c.hosting.ensures b) ∙ there)).0) in
     let below : b < length c.self.inside.placement.names = c.self.invariant.0.history.below b (subst (λ (s : SeatedBook). is_enabled s.state.history b ≡ true) (sym c.self.view_is) on) in
     omega (arith, c.self.invariant.0.history.backend_count))
