@@ -2,20 +2,17 @@
 use Rattle.std.proofs.Common.{◌≡◌, ◌≢◌, ℕ, ◌+◌, ◌*◌, ◌^◌, ◌<◌, Bool, true, List, [], ◌∷◌, ◌++◌, Option, None, Some, Result, Err, IfErr, IfSome, OnErr, refl, ap, sym, ◌∙◌, subst, arith}
 use mathlib.Core.List.{IsPrefix}
 use Rattle.std.proofs.lemmas.Bool.{and_parts}
-use Rattle.cj_model.specs.declared.request.Entry.{Entry}
 use Rattle.cj_model.specs.declared.request.Request.TheVariants as request
 use Rattle.cj_model.specs.declared.select.Select.{Select}
 use Rattle.cj_model.specs.Cluster.Balancing.{one_less}
-use Rattle.cj_model.specs.Cluster.Caching.{CacheState}
 use Rattle.cj_model.specs.Cluster.Masks.{in_mask}
 use Rattle.cj_model.specs.Cluster.Placements.{Placement, hosts_all}
 use Rattle.cj_model.proofs.Masks.{some_bit}
 use Rattle.cj_cluster.specs.declared.event.Event.{Event}
 use Rattle.cj_cluster.specs.declared.event.Event.TheVariants.{ReadFailed}
 use Rattle.cj_cluster.specs.History.Answering.{HasServer}
-use Rattle.cj_cluster.specs.History.Freshness.{IsFreshCache}
-use Rattle.cj_cluster.specs.History.Histories.{events_left, is_enabled, is_free, log}
-use Rattle.cj_cluster.proofs.Pushed.{free-same, log-same, prefix_self}
+use Rattle.cj_cluster.specs.History.Histories.{events_left, is_enabled, is_free}
+use Rattle.cj_cluster.proofs.Pushed.{free-same, prefix_self}
 use Rattle.cj_board.specs.declared.view.SeatView.{SeatView}
 use Rattle.cj_board.specs.Points.{fault_tokens_of}
 use Rattle.cj_board.specs.Steps.{after_learning, after_split}
@@ -102,10 +99,6 @@ module _ (p : Placement) (h H : List Event) (s q b : ℕ) (select : Select) (r :
       let all : turn_events_of H ≡ turn_events_of h = either_way (λ (x : List Event). turn_events_of x ≡ turn_events_of h) refl (omega (arith, push)) in
       ap (λ (x : ℕ × Option Pending). 3 * x.0 + pending_weight x.1) (λ i. ((sym all ∙ ap turn_events_of (sym now)) i, sym same i))
 
-  -- the log's entries are the same
-  pub failed_log : log H ≡ log h
-  failed_log = either_way (λ (x : List Event). log x ≡ log h) refl (log-same h (ReadFailed s q b) refl)
-
   -- nobody has the turn still
   pub failed_vacant : {S : Type 0} (tells : Bool) (count : S → ℕ) (old new : SeatedBook) → old.state.history ≡ h → new.state.history ≡ H → new.pending ≡ old.pending
       → (l : Option (BookLogState S)) → IfSome l (IsVacant tells count old) → IfSome l (IsVacant tells count new)
@@ -118,12 +111,6 @@ module _ (p : Placement) (h H : List Event) (s q b : ℕ) (select : Select) (r :
         unpending = pending ∙ vacant.unpending;
         follows = subst (LogFollows tells count l) (sym now) (either_way (LogFollows tells count l) follows (log_more follows (ReadFailed s q b) (λ k. refl) (λ f. refl) refl));
       }
-
-  -- and each kept answer is fresh
-  pub failed_fresh : (told : Bool) (c d : CacheState) (G : List Event) → G ≡ H → d ≡ c → IsFreshCache told (log h) c → IsFreshCache told (log G) d
-  failed_fresh told c d G now same fresh =
-      let entries : log G ≡ log h = ap log now ∙ failed_log in
-      subst (λ (x : List Entry × CacheState). IsFreshCache told x.0 x.1) (λ i. (sym entries i, sym same i)) fresh
 
   pub failed_since : (F G : List Event) (place : Placement) → IsPrefix F h → p ≡ place → G ≡ H → FailsSince place F G s q b select r
   failed_since F G place longer same now = record {

@@ -1,10 +1,10 @@
+pub mod Balancing
 pub mod Beginning
 pub mod Changing
 pub mod Ending
 pub mod Failing
 pub mod Finishing
 pub mod Following
-pub mod Fresh
 pub mod Holding
 pub mod Looking
 pub mod Marking

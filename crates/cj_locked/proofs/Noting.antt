@@ -4,11 +4,9 @@ use Rattle.std.proofs.lemmas.Bool.{cases_lt}
 use Rattle.std.proofs.lemmas.List.{map-append}
 use Rattle.std.proofs.lemmas.List.Elements.{filter_map-append, Contains-append_left, Contains-append_right}
 use Rattle.atomic_table.specs.Seated.{TableId}
-use Rattle.cj_model.specs.Cluster.Caching.{CacheState}
 use Rattle.cj_model.specs.declared.limits.TheConstants.{SESSION_NUMBER_LIMIT}
 use Rattle.cj_model.specs.declared.request.Entry.{Entry}
 use Rattle.cj_cluster.specs.declared.event.Event.{Event}
-use Rattle.cj_cluster.specs.History.Freshness.{IsFreshCache}
 use Rattle.cj_cluster.specs.History.Histories.{is_free, log, scheduled_entry}
 use Rattle.cj_board.specs.declared.view.SeatView.{SeatView}
 use Rattle.cj_board.specs.Counting.{greatest_of, log_failure_session, log_failure_sessions, session_after, sessions_in}
@@ -119,7 +117,7 @@ noted_opened v w greatest s is next number within note =
     record { known = inr (0, subst (λ (n : ℕ). n ≤ SESSION_NUMBER_LIMIT) (sym last) within, subst (λ (n : ℕ). Contains w.count_notes (n, 0)) (sym last) note) }
 
 -- only sessions and knowledge of the book have changed
-module _ {S : Type 0} (board : TableId) (layout : Layout) (told tells : Bool) (count : S → ℕ) (total : ℕ) (old new : SeatedBook) (l : Option (BookLogState S)) (locked : IsLocked board layout told tells count total (record { book = old; log = l }))
+module _ {S : Type 0} (board : TableId) (layout : Layout) (tells : Bool) (count : S → ℕ) (total : ℕ) (old new : SeatedBook) (l : Option (BookLogState S)) (locked : IsLocked board layout tells count total (record { book = old; log = l }))
     (history : new.state.history ≡ old.state.history) (pending : new.pending ≡ old.pending) where
   vacant_still : (x : Option (BookLogState S)) → IfSome x (IsVacant tells count old) → IfSome x (IsVacant tells count new)
   vacant_still None vacant = tt
@@ -130,15 +128,14 @@ module _ {S : Type 0} (board : TableId) (layout : Layout) (told tells : Bool) (c
         follows = subst (λ (h : List Event). LogFollows tells count y h) (sym history) vacant.follows;
       }
 
-  pub locked_still : new.board ≡ old.board → new.state.layout ≡ old.state.layout → new.state.cache ≡ old.state.cache → GivesOwnPassesOnly new → LastIsNoted new.view → IsLocked board layout told tells count total (record { book = new; log = l })
-  locked_still at laid cache gives noted =
+  pub locked_still : new.board ≡ old.board → new.state.layout ≡ old.state.layout → GivesOwnPassesOnly new → LastIsNoted new.view → IsLocked board layout tells count total (record { book = new; log = l })
+  locked_still at laid gives noted =
       record {
         on = at ∙ locked.on;
         laid = laid ∙ locked.laid;
         gives = gives;
         counted = locked.counted ∙ (λ i. turn_amount (sym history i) (sym pending i));
         vacant = vacant_still l locked.vacant;
-        fresh = subst (λ (x : List Event × CacheState). IsFreshCache told (log x.0) x.1) (λ i. (sym history i, sym cache i)) locked.fresh;
         noted = noted;
       }
 

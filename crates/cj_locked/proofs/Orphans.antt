@@ -11,13 +11,11 @@ use Rattle.cj_model.specs.Sql.PlainRequests.{request_of}
 use Rattle.cj_cluster.specs.declared.event.Event.{Event}
 use Rattle.cj_cluster.specs.declared.event.Event.TheVariants.{LogFailed, Sched}
 use Rattle.cj_cluster.specs.History.Answering.{HasServer}
-use Rattle.cj_cluster.specs.History.Freshness.{IsFreshCache, without_touched}
 use Rattle.cj_cluster.specs.History.Histories.{is_free, log, tx_of}
 use Rattle.cj_cluster.specs.History.Legality.{IsAdministratorEntry, IsFitEntry, IsLegal, IsSessionEntry}
 use Rattle.cj_cluster.specs.Moves.Moves.{entry_numbered, user_of}
-use Rattle.cj_cluster.proofs.FreshAnswers.{fresh_next}
 use Rattle.cj_cluster.proofs.Now.{numbered_at}
-use Rattle.cj_cluster.proofs.Pushed.{log-same, log-sched, prefix_self, prefix_trans}
+use Rattle.cj_cluster.proofs.Pushed.{prefix_self, prefix_trans}
 use Rattle.cj_cluster.proofs.TransactionLaws.{fit_at, legal_fit}
 use Rattle.cj_cluster.proofs.WrittenRollback.{rollback_written}
 use Rattle.cj_board.specs.declared.view.SeatView.{SeatView}
@@ -180,9 +178,3 @@ abort_gives e a book new result admin gives state view =
     let same = finished_greatest book.state e a new.state state in
     let next = came_gives book.state.greatest book.view o (low_sessions book.state.greatest e result (omega (arith, admin))) gives in
     subst (λ (x : ℕ × SeatView). x.0 + 1 ≡ next_session x.1) (λ k. (sym same k, sym view k)) next
-
--- and the cache is fresh
-pub abort_fresh : (told : Bool) (old : BookState) (e : Entry) (a : Result Unit LogError) → IsFreshCache told (log old.history) old.cache → IsFreshCache told (log (entry_finished old e a).history) (entry_finished old e a).cache
-abort_fresh told old e (Ok u) fresh = subst (λ (entries : List Entry). IsFreshCache told entries (without_touched (log old.history) e old.cache)) (sym (log-sched old.history e)) (fresh_next told (log old.history) e old.cache fresh)
-abort_fresh told old e (Err log_errors.Failed) fresh = subst (λ (entries : List Entry). IsFreshCache told entries old.cache) (sym (log-same old.history (LogFailed e.session e.seq) refl)) fresh
-abort_fresh told old e (Err log_errors.NoMemory) fresh = fresh

@@ -4,8 +4,7 @@ use Rattle.std.specs.declared.option.Option.{Option}
 use Rattle.std.specs.declared.option.Option.TheVariants.{None}
 use Rattle.atomic_table.specs.Seated.{TableId}
 use Rattle.cj_model.specs.declared.limits.TheConstants.{SESSION_NUMBER_LIMIT}
-use Rattle.cj_cluster.specs.History.Freshness.{IsFreshCache}
-use Rattle.cj_cluster.specs.History.Histories.{is_free, log}
+use Rattle.cj_cluster.specs.History.Histories.{is_free}
 use Rattle.cj_place.specs.Layouts.{Layout}
 use Rattle.cj_board.specs.declared.view.SeatView.{SeatView}
 use Rattle.cj_board.specs.Counting.{session_after}
@@ -30,12 +29,11 @@ pub record LastIsNoted (v : SeatView) : Type 0 where
   pub known : (v.last_given < session_after 0 v.front) ⊎ ((k : ℕ) × (v.last_given ≤ SESSION_NUMBER_LIMIT) × Contains v.count_notes (v.last_given, k))
 
 -- It is the book of this board and this layout, each of whose sessions was opened with an own pass. The ledger's total
--- is the turn's amount. Each kept answer is fresh, and right if the backends tell what they hold (`told`).
-pub record IsLocked {S : Type 0} (board : TableId) (layout : Layout) (told tells : Bool) (count : S → ℕ) (total : ℕ) (x : LockedState S) : Type 0 where
+-- is the turn's amount.
+pub record IsLocked {S : Type 0} (board : TableId) (layout : Layout) (tells : Bool) (count : S → ℕ) (total : ℕ) (x : LockedState S) : Type 0 where
   pub on : x.book.board ≡ board
   pub laid : x.book.state.layout ≡ layout
   pub gives : GivesOwnPassesOnly x.book
   pub counted : total ≡ turn_amount x.book.state.history x.book.pending
   pub vacant : IfSome x.log (IsVacant tells count x.book)
-  pub fresh : IsFreshCache told (log x.book.state.history) x.book.state.cache
   pub noted : LastIsNoted x.book.view

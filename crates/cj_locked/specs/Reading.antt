@@ -19,8 +19,9 @@ use Rattle.cj_cluster.specs.History.Histories.{events_left}
 use Rattle.cj_cluster.specs.History.Turns.{Call}
 use Rattle.cj_cluster.specs.Moves.Runs.{HasFailedSince}
 use Rattle.cj_board.specs.declared.view.SeatView.{SeatView}
+use Rattle.cj_book.specs.News.{IsOwedAt, IsRightAt}
 use Rattle.cj_locked_cell.specs.Answering.{GivesAnswerAt}
-use Rattle.cj_locked.specs.Looking.{AreAllTried, IsOwedAt, IsRightAt}
+use Rattle.cj_locked.specs.Looking.{AreAllTried}
 
 -- the query as a session's call
 abbrev pub call_of_query : ℕ → ℕ → List ℕ → Select → Reply → Call

@@ -2,7 +2,6 @@
 
 ghost use Rattle.std.specs.Prelude.{◌≡◌, ◌-◌, ◌<◌, IfOk, IfErr, OnErr, ◌&&◌, not, ℕ, Bool, true, false, length, None, Some, is_none, Contains};
 ghost use Rattle.cj_model.specs.Cluster.Masks.{in_mask};
-ghost use Rattle.cj_cluster.specs.History.Freshness.{IsFreshCache};
 ghost use Rattle.cj_cluster.specs.History.Histories.{is_enabled, is_free, log};
 ghost use Rattle.cj_cluster.specs.History.Legality.{IsFitEntry, IsLegal};
 ghost use Rattle.cj_place.specs.Layouts.{placement_of};
@@ -49,7 +48,7 @@ impl<J: Naming, S: Store> Model for LockedBook<J, S> {
 
     ghost view = { λ x. record { book = x.book; log = option_map (λ t. t.log) x.turn } };
 
-    ghost invariant = { λ x. IsLocked J.board J.layout J.tells S.tells S.faults x.ledger.total (record { book = x.book; log = option_map (λ t. t.log) x.turn }) };
+    ghost invariant = { λ x. IsLocked J.board J.layout S.tells S.faults x.ledger.total (record { book = x.book; log = option_map (λ t. t.log) x.turn }) };
 }
 
 /// What the writer of an entry has while the entry is on its way into the recovery log.
@@ -112,7 +111,6 @@ impl<J: Naming, S: Store + Drop> LockedBook<J, S> {
         requires unfailed { turn_events_of book.state.history ≡ length book.state.history }
         requires total { ledger.total ≡ 0 }
         requires follows { LogFollows S.tells S.faults turn.log book.state.history }
-        requires fresh { IsFreshCache J.tells (log book.state.history) book.state.cache }
         requires noted { LastIsNoted book.view }
         ensures { result ≡ record { book = book; log = Some turn.log } }
     {

@@ -5,8 +5,9 @@
 //! The `Turn` is a token: only who has it brings events into the history, but for failures in reads. With it goes the
 //! recovery log, so that an append holds no lock. It can't be dropped, so it comes back to the book.
 //! Promised: a write is a turn of its session (`WritesTurn`), from `begin`, `finish` and `end` by `proofs/Writing`.
-//! To change: entries are in `book.rt` and `orphan.rt`, queries in `look.rt` and `failure.rt`, the rest in `mark.rt`,
-//! `session.rt`, `hold.rt`, `change.rt` and `listing.rt`. Proofs begin in `proofs/Turns` (what stays with the turn).
+//! To change: entries are in `book.rt` and `orphan.rt`, queries and news in `look.rt` and `failure.rt`, the rest in
+//! `mark.rt`, `session.rt`, `hold.rt`, `change.rt` and `listing.rt`. Proofs begin in `proofs/Turns` (what stays with
+//! the turn).
 //! To read: `specs/Turns`, `specs/Writing`, `specs/Looking`, `specs/Reading`, `specs/Marking`, `specs/Changes`,
 //! `specs/Listing`.
 #![tactic(auto)]

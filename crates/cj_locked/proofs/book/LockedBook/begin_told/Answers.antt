@@ -22,7 +22,6 @@ invariant_of-self g c = record {
   gives = c.begin_own.ensures.still_gives;
   counted = search rules;
   vacant = search rules;
-  fresh = search rules;
   noted = still_noted c.self.inside.book.view c.begin_own.new.self.view (keeps_learning c.self.inside.book.view (pass_without_tokens (pass_view c.args.pass.now.seat)) c.begin_own.new.self.view c.begin_own.ensures.seat) c.self.invariant.noted;
 }
 
@@ -33,7 +32,6 @@ invariant_of-self-in-Err g c = record {
   gives = c.begin_own.ensures.still_gives;
   counted = search rules;
   vacant = search rules;
-  fresh = search rules;
   noted = still_noted c.self.inside.book.view c.begin_own.new.self.view (keeps_learning c.self.inside.book.view (pass_without_tokens (pass_view c.args.pass.now.seat)) c.begin_own.new.self.view c.begin_own.ensures.seat) c.self.invariant.noted;
 }
 

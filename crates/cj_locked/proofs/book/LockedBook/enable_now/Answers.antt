@@ -7,7 +7,6 @@ use Rattle.cj_book.specs.Books.{with_event, BookState}
 use Rattle.cj_locked.specs.Changes.{BringsAt}
 use Rattle.cj_locked.specs.Locked.{IsVacant}
 use Rattle.cj_locked.proofs.Changing.{amount_more, enabled_vacant, refused_at}
-use Rattle.cj_locked.proofs.Fresh.{fresh_event}
 use Rattle.cj_locked.proofs.Noting.{keeps_event, still_noted}
 use Rattle.cj_locked.proofs.Holding.{taken_vacant}
 use Rattle.cj_locked.proofs.book.LockedBook.enable_now.Goals as goal
@@ -26,7 +25,6 @@ invariant_of-self g c =
           ∙ amount_more old.state.history old.pending (Enabled c.args.b) refl c.enable.new.self.state.history c.enable.new.self.pending (ap (λ (x : BookState). x.history) now) c.enable.ensures.pending);
       vacant = subst (λ (l : BookLogState _). IsVacant g.S.Store.tells g.S.Store.faults c.enable.new.self l) (sym (c.keep.ensures ∙ c.count.ensures.log))
           (enabled_vacant g.S.Store.tells g.S.Store.faults old c.enable.new.self c.taken-turn.result.log vacant c.enable.ensures.pending c.args.b now);
-      fresh = fresh_event g.J.Naming.tells old.state c.enable.new.self.state (Enabled c.args.b) refl now c.self.invariant.fresh;
       noted = still_noted old.view c.enable.new.self.view (keeps_event _ old.view c.enable.new.self.view c.enable.ensures.seat) c.self.invariant.noted;
     }
 

@@ -1,4 +1,4 @@
-use Rattle.std.proofs.Common.{◌≡◌, ◌+◌, ℕ, ◌++◌, ◌∷◌, [], List, length, None, Some, true, refl, ap, sym, ◌∙◌, subst}
+use Rattle.std.proofs.Common.{◌≡◌, ◌+◌, ℕ, ◌++◌, ◌∷◌, [], List, length, None, Some, true, ap, sym, ◌∙◌, subst}
 use Rattle.cj_cluster.specs.declared.event.Event.{Event}
 use Rattle.cj_cluster.specs.declared.event.Event.TheVariants.{Ended}
 use Rattle.cj_cluster.specs.History.Histories.{is_free, open_entry_of}
@@ -10,7 +10,6 @@ use Rattle.cj_model.specs.Cluster.Masks.{in_mask}
 use Rattle.cj_model.specs.Cluster.Placements.{Placement}
 use Rattle.cj_book.specs.Books.{is_target_at, placement_at, with_event, BookState}
 use Rattle.cj_locked.proofs.Ending.{amount_ended, same_counted, end_follows, end_idle, end_last, end_open, end_positions, end_tokens, end_unpending, ends_as_reported, ends_since, fit_masks}
-use Rattle.cj_locked.proofs.Fresh.{fresh_event, fresh_same}
 use Rattle.cj_locked.proofs.Noting.{keeps_event, keeps_learning, still_noted}
 use Rattle.cj_locked.proofs.book.LockedBook.end.Goals as goal
 
@@ -59,8 +58,6 @@ invariant_of-self g c =
             (subst (λ (x : List Event). LogFollows g.S.Store.tells g.S.Store.faults c.args.entry.turn.log x) (sym now)
             (end_follows g.S.Store.tells g.S.Store.faults l F h c.args.entry.number c.args.entry.enabled c.args.e.now c.args.entry.turn.share.amount c.args.entry.turn.log c.requires.holds c.learn.ensures.seen c.learn.new.self.pending whole c.settled-tally.result.failed c.settled-tally.result.starved));
       };
-      fresh = fresh_event g.J.Naming.tells c.learn.new.self.state c.tell.new.self.state (Ended c.settled-tally.result.failed c.settled-tally.result.starved) refl (c.tell.ensures.state ∙ c.end.ensures.state)
-          (fresh_same g.J.Naming.tells c.self.inside.book.state c.learn.new.self.state c.learn.ensures.state c.self.invariant.fresh);
       noted = still_noted c.end.new.self.view c.tell.new.self.view (keeps_learning c.end.new.self.view (pass_without_tokens (pass_view c.learn.new.p)) c.tell.new.self.view c.tell.ensures.book)
           (still_noted c.learn.new.self.view c.end.new.self.view (keeps_event (Some (Ended c.settled-tally.result.failed c.settled-tally.result.starved)) c.learn.new.self.view c.end.new.self.view c.end.ensures.seat)
           (still_noted c.self.inside.book.view c.learn.new.self.view (keeps_learning c.self.inside.book.view (pass_of (pass_view c.args.pass.now.seat)) c.learn.new.self.view c.learn.ensures.book) c.self.invariant.noted));

@@ -1,13 +1,11 @@
 use Rattle.std.proofs.Common.{rules, ◌≡◌, ap, sym, ◌∙◌, subst}
-use Rattle.cj_cluster.specs.History.Freshness.{IsFreshCache}
-use Rattle.cj_cluster.specs.History.Histories.{log}
 use Rattle.cj_board.specs.Seats.{front, pass_view}
 use Rattle.cj_board.specs.Views.{pass_of, pass_without_tokens}
 use Rattle.cj_place.specs.Layouts.{placement_of}
 use Rattle.cj_book.specs.Books.{placement_at, BookState}
 use Rattle.cj_locked.specs.Failures.{FailsAt}
 use Rattle.cj_locked.proofs.Ending.{same_counted}
-use Rattle.cj_locked.proofs.Failing.{failed_amount, failed_fresh, failed_since, failed_state, failed_vacant, gives_on, learned_tokens, read_ended, seen_split}
+use Rattle.cj_locked.proofs.Failing.{failed_amount, failed_since, failed_state, failed_vacant, gives_on, learned_tokens, read_ended, seen_split}
 use Rattle.cj_pass.proofs.Passes.{noted_joined, seen_then}
 use Rattle.cj_locked.proofs.Noting.{keeps_learning, keeps_same, still_noted}
 use Rattle.cj_locked.proofs.book.LockedBook.fail_read.Goals as goal
@@ -35,9 +33,6 @@ invariant_of-self g c =
           ∙ failed_amount (placement_at learned.state) learned.state.history failed.state.history c.args.session c.args.seq c.args.b c.args.select.now c.fail_now-failure.result at learned.pending last.pending last.state.history history pending);
       vacant = failed_vacant (placement_at learned.state) learned.state.history failed.state.history c.args.session c.args.seq c.args.b c.args.select.now c.fail_now-failure.result at g.S.Store.tells g.S.Store.faults old last
           (sym (ap (λ (x : BookState). x.history) c.learn.ensures.state)) history (pending ∙ c.learn.ensures.pending) _ c.self.invariant.vacant;
-      fresh = failed_fresh (placement_at learned.state) learned.state.history failed.state.history c.args.session c.args.seq c.args.b c.args.select.now c.fail_now-failure.result at g.J.Naming.tells learned.state.cache last.state.cache last.state.history history
-          (ap (λ (x : BookState). x.cache) now ∙ ap (λ (x : BookState). x.cache) c.fail_now-failure.ensures.state)
-          (subst (λ (x : BookState). IsFreshCache g.J.Naming.tells (log x.history) x.cache) (sym c.learn.ensures.state) c.self.invariant.fresh);
       noted = still_noted c.ended.new.self.view last.view (keeps_learning c.ended.new.self.view (pass_without_tokens (pass_view c.learn.new.p)) last.view c.tell.ensures.book)
           (still_noted failed.view c.ended.new.self.view (keeps_same failed.view c.ended.new.self.view c.ended.ensures.seat.1)
           (c.fail_now-failure.ensures.noted

@@ -9,12 +9,11 @@ use Rattle.cj_book.specs.Books.{is_orphan, placement_at, BookState, IsPrepared}
 use Rattle.cj_book.specs.Events.{entry_finished, finished_as}
 use Rattle.cj_book.specs.declared.pending.Pending.TheVariants as pending
 use Rattle.cj_book.proofs.Owners.{orphan_counted}
-use Rattle.cj_cluster.specs.History.Freshness.{IsFreshCache}
 use Rattle.cj_locked.specs.Locked.{IsVacant}
 use Rattle.cj_locked.specs.Orphans.{RefusesAppendedSince}
 use Rattle.cj_locked.specs.Turns.{turn_amount}
 use Rattle.cj_locked.proofs.Finishing.{amount_refused, amount_scheduled, appended_ok, finished_layout, holds_now, is_pending, nobody_there, refusal_follows, refusal_idle, schedules_now, still_fit, still_prepared}
-use Rattle.cj_locked.proofs.Orphans.{abort_fresh, abort_gives, abort_scheduled, abort_unfinished}
+use Rattle.cj_locked.proofs.Orphans.{abort_gives, abort_scheduled, abort_unfinished}
 use Rattle.cj_locked.proofs.Noting.{keeps_event, still_noted}
 use Rattle.cj_locked.proofs.book.LockedBook.finish_orphan.Goals as goal
 
@@ -68,7 +67,6 @@ invariant_of-self g c =
       gives = abort_gives e a c.self.inside.book f.new.self f.result c.requires.aborts.session c.self.invariant.gives f.ensures.state f.ensures.seat;
       counted = c.count.ensures.total ∙ (amount_scheduled old.history e c.uncount.new.ledger.total total ∙ (λ i. turn_amount (sym now i) (sym f.ensures.pending i)));
       vacant = nobody_there g.S.Store.tells g.S.Store.faults c.self.inside.book _ pending.Entry c.self.invariant.vacant awaited (IsVacant g.S.Store.tells g.S.Store.faults f.new.self);
-      fresh = subst (λ (b : BookState). IsFreshCache g.J.Naming.tells (log b.history) b.cache) (sym f.ensures.state) (abort_fresh g.J.Naming.tells old e a c.self.invariant.fresh);
       noted = still_noted c.self.inside.book.view f.new.self.view (keeps_event _ c.self.inside.book.view f.new.self.view f.ensures.seat) c.self.invariant.noted;
     }
 
@@ -99,7 +97,6 @@ invariant_of-self-in-Err g c =
         follows = subst (λ (x : BookLogState _). LogFollows g.S.Store.tells g.S.Store.faults x f.new.self.state.history) (sym same)
             (subst (λ (x : List Event). LogFollows g.S.Store.tells g.S.Store.faults c.args.turn.log x) (sym now) (refusal_follows g.S.Store.tells g.S.Store.faults (placement_of g.J.Naming.layout) c.args.self.now.book.state.history e c.args.prepared c.args.turn.share.amount c.args.turn.log a c.requires.holds old before c.self.inside.book.pending whole k c.in-Err.error answer));
       };
-      fresh = subst (λ (b : BookState). IsFreshCache g.J.Naming.tells (log b.history) b.cache) (sym f.ensures.state) (abort_fresh g.J.Naming.tells old e a c.self.invariant.fresh);
       noted = still_noted c.self.inside.book.view f.new.self.view (keeps_event _ c.self.inside.book.view f.new.self.view f.ensures.seat) c.self.invariant.noted;
     }
 

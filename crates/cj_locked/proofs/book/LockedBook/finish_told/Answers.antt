@@ -15,7 +15,6 @@ use Rattle.cj_book.specs.declared.pending.Pending.TheVariants as pending
 use Rattle.cj_locked.specs.Locked.{IsVacant}
 use Rattle.cj_locked.specs.Turns.{turn_amount}
 use Rattle.cj_locked.proofs.Finishing.{amount_refused, amount_scheduled, appended_ok, finished_counted, finished_layout, holds_now, is_pending, nobody_there, refusal_follows, refusal_idle, refuses_then, schedules_now, still_fit, still_prepared}
-use Rattle.cj_locked.proofs.Fresh.{fresh_finished}
 use Rattle.cj_locked.proofs.Noting.{keeps_own_told, still_noted}
 use Rattle.cj_locked.proofs.book.LockedBook.finish_told.Goals as goal
 
@@ -51,7 +50,6 @@ invariant_of-self g c =
       gives = c.finish_own-finished.ensures.still_gives;
       counted = c.count.ensures.total ∙ (amount_scheduled old.history e c.uncount.new.ledger.total total ∙ (λ i. turn_amount (sym now i) (sym c.finish_own-finished.ensures.pending i)));
       vacant = nobody_there g.S.Store.tells g.S.Store.faults c.self.inside.book _ pending.Entry c.self.invariant.vacant awaited (IsVacant g.S.Store.tells g.S.Store.faults c.finish_own-finished.new.self);
-      fresh = fresh_finished g.J.Naming.tells old c.finish_own-finished.new.self.state e a c.finish_own-finished.ensures.state c.self.invariant.fresh;
       noted = still_noted c.self.inside.book.view c.finish_own-finished.new.self.view (keeps_own_told _ c.self.inside.book.view (pass_view c.args.pass.now.seat) (told_pass c.self.inside.book.view (pass_view c.args.pass.now.seat)) c.finish_own-finished.new.self.view c.finish_own-finished.ensures.seat) c.self.invariant.noted;
     }
 
@@ -81,7 +79,6 @@ invariant_of-self-in-Err g c =
         follows = subst (λ (x : BookLogState _). LogFollows g.S.Store.tells g.S.Store.faults x c.finish_own-finished.new.self.state.history) (sym same)
             (subst (λ (x : List Event). LogFollows g.S.Store.tells g.S.Store.faults c.args.turn.log x) (sym now) (refusal_follows g.S.Store.tells g.S.Store.faults (placement_of g.J.Naming.layout) (front c.args.pass.now.seat) c.args.e c.args.prepared c.args.turn.share.amount c.args.turn.log c.args.appended c.requires.holds c.self.inside.book.state before c.self.inside.book.pending whole k c.in-Err.error answer));
       };
-      fresh = fresh_finished g.J.Naming.tells old c.finish_own-finished.new.self.state e a c.finish_own-finished.ensures.state c.self.invariant.fresh;
       noted = still_noted c.self.inside.book.view c.finish_own-finished.new.self.view (keeps_own_told _ c.self.inside.book.view (pass_view c.args.pass.now.seat) (told_pass c.self.inside.book.view (pass_view c.args.pass.now.seat)) c.finish_own-finished.new.self.view c.finish_own-finished.ensures.seat) c.self.invariant.noted;
     }
 

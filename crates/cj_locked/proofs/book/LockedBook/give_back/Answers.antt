@@ -1,7 +1,5 @@
 use Rattle.std.proofs.Common.{ap, sym, ◌∙◌, subst}
 use mathlib.Core.List.{IsPrefix}
-use Rattle.cj_cluster.specs.History.Freshness.{IsFreshCache}
-use Rattle.cj_cluster.specs.History.Histories.{log}
 use Rattle.cj_board.specs.Seats.{front, pass_view}
 use Rattle.cj_board.specs.Views.{pass_without_tokens}
 use Rattle.cj_book.specs.Books.{BookState}
@@ -23,7 +21,6 @@ invariant_of-self g c =
       counted = c.audit.ensures.total ∙ (c.self.invariant.counted ∙ sym (same_counted old c.tell.new.self c.tell.ensures.state c.tell.ensures.pending));
       vacant = given_back g.S.Store.tells g.S.Store.faults (front c.args.pass.now.seat) old.state.history c.args.turn.share.amount c.args.turn.log c.requires.holds longer old.pending (c.audit.ensures.whole ∙ c.self.invariant.counted)
           c.tell.new.self c.keep.result.log (ap (λ (x : BookState). x.history) c.tell.ensures.state) c.tell.ensures.pending (c.keep.ensures ∙ c.audit.ensures.log);
-      fresh = subst (λ (x : BookState). IsFreshCache g.J.Naming.tells (log x.history) x.cache) (sym c.tell.ensures.state) c.self.invariant.fresh;
       noted = still_noted old.view c.tell.new.self.view (keeps_learning old.view (pass_without_tokens (pass_view c.args.pass.now.seat)) c.tell.new.self.view c.tell.ensures.book) c.self.invariant.noted;
     }
 

@@ -1,6 +1,5 @@
-use Rattle.std.proofs.Common.{rules, List, length, ap, sym, ◌∙◌, subst}
+use Rattle.std.proofs.Common.{rules, List, length, ap, sym, ◌∙◌}
 use Rattle.cj_cluster.specs.declared.event.Event.{Event}
-use Rattle.cj_cluster.specs.History.Freshness.{IsFreshCache}
 use Rattle.cj_cluster.specs.History.Histories.{is_enabled, log}
 use Rattle.cj_board.specs.Seats.{front, pass_view}
 use Rattle.cj_board.specs.Views.{pass_without_tokens}
@@ -19,7 +18,6 @@ invariant_of-self g c = record {
   gives = c.tell.ensures.still_gives c.self.invariant.gives;
   counted = c.audit.ensures.total ∙ (c.self.invariant.counted ∙ sym (same_counted c.self.inside.book c.tell.new.self c.tell.ensures.state c.tell.ensures.pending));
   vacant = search rules;
-  fresh = subst (λ (x : BookState). IsFreshCache g.J.Naming.tells (log x.history) x.cache) (sym c.tell.ensures.state) c.self.invariant.fresh;
   noted = still_noted c.self.inside.book.view c.tell.new.self.view (keeps_learning c.self.inside.book.view (pass_without_tokens (pass_view c.args.pass.now.seat)) c.tell.new.self.view c.tell.ensures.book) c.self.invariant.noted;
 }
 

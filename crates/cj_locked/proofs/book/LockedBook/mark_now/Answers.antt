@@ -11,7 +11,6 @@ use Rattle.cj_locked.specs.Marking.{MarksAt}
 use Rattle.cj_locked.specs.Turns.{turn_amount}
 use Rattle.cj_locked.proofs.Holding.{over_since}
 use Rattle.cj_locked.proofs.Marking.{amount_marked, amount_unmarked, mark_follows, mark_fresh, mark_idle, mark_pending, mark_uncounted, marked_gives, marked_layout, marks_ok}
-use Rattle.cj_locked.proofs.Fresh.{fresh_marked}
 use Rattle.cj_locked.proofs.Noting.{keeps_event, still_noted}
 use Rattle.cj_locked.proofs.book.LockedBook.mark_now.Goals as goal
 
@@ -47,7 +46,6 @@ invariant_of-self g c =
         follows = subst (λ (x : BookLogState _). LogFollows g.S.Store.tells g.S.Store.faults x c.finish_marker.new.self.state.history) (sym same)
             (subst (λ (x : List Event). LogFollows g.S.Store.tells g.S.Store.faults c.args.turn.log x) (sym now) (mark_follows g.S.Store.tells g.S.Store.faults c.args.self.now.book.state.history c.args.name.now c.args.b c.args.turn.share.amount c.args.turn.log c.args.appended c.requires.holds c.self.inside.book.state before c.self.inside.book.pending whole));
       };
-      fresh = fresh_marked g.J.Naming.tells old c.finish_marker.new.self.state c.args.name.now c.args.b c.args.appended c.finish_marker.ensures.state c.self.invariant.fresh;
       noted = still_noted c.self.inside.book.view c.finish_marker.new.self.view (keeps_event _ c.self.inside.book.view c.finish_marker.new.self.view c.finish_marker.ensures.seat) c.self.invariant.noted;
     }
 
@@ -74,7 +72,6 @@ invariant_of-self-in-Err g c =
         follows = subst (λ (x : BookLogState _). LogFollows g.S.Store.tells g.S.Store.faults x c.finish_marker.new.self.state.history) (sym same)
             (subst (λ (x : List Event). LogFollows g.S.Store.tells g.S.Store.faults c.args.turn.log x) (sym now) (mark_follows g.S.Store.tells g.S.Store.faults c.args.self.now.book.state.history c.args.name.now c.args.b c.args.turn.share.amount c.args.turn.log c.args.appended c.requires.holds c.self.inside.book.state before c.self.inside.book.pending whole));
       };
-      fresh = fresh_marked g.J.Naming.tells old c.finish_marker.new.self.state c.args.name.now c.args.b c.args.appended c.finish_marker.ensures.state c.self.invariant.fresh;
       noted = still_noted c.self.inside.book.view c.finish_marker.new.self.view (keeps_event _ c.self.inside.book.view c.finish_marker.new.self.view c.finish_marker.ensures.seat) c.self.invariant.noted;
     }
 

@@ -55,9 +55,9 @@ invariant_of-self-2 g c =
     let left : told.state.greatest < SESSION_NUMBER_LIMIT = number_left told.state c.open_own.result (c.in_ok-session.session, c.in_ok-session.seat) c.open_own.ensures.full c.in_ok-session.was in
     let number : c.in_ok-session.session ≡ told.state.greatest + 1 = c.in_ok-session.ensures.number in
     let within : c.in_ok-session.session ≤ SESSION_NUMBER_LIMIT = omega (arith, number, left) in
-    locked_still g.J.Naming.board g.J.Naming.layout g.J.Naming.tells g.S.Store.tells g.S.Store.faults c.self.inside.ledger.total old new _ c.self.invariant
+    locked_still g.J.Naming.board g.J.Naming.layout g.S.Store.tells g.S.Store.faults c.self.inside.ledger.total old new _ c.self.invariant
     (ap (λ (x : BookState). x.history) (state ∙ ap with_session same)) (c.open_own.ensures.pending ∙ c.tell.ensures.pending) (c.open_own.ensures.board ∙ c.tell.ensures.board.0) (ap (λ (x : BookState). x.layout) (state ∙ ap with_session same))
-    (ap (λ (x : BookState). x.cache) (state ∙ ap with_session same)) c.open_own.ensures.still_gives
+    c.open_own.ensures.still_gives
     (noted_opened told.view new.view told.state.greatest c.in_ok-session.session c.in_ok-session.ensures.seat (c.tell.ensures.still_gives c.self.invariant.gives) number within c.in_ok-session.ensures.noted)
 
 pub returns-in_err-session-clause-cause : goal.returns-in_err-session-clause-cause

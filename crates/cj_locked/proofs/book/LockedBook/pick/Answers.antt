@@ -4,7 +4,7 @@ use Rattle.cj_book.specs.Books.{read_at, BookState}
 use Rattle.cj_locked.specs.declared.look.Look.{Look}
 use Rattle.cj_locked.specs.declared.look.Look.TheVariants.{Ask, Tried}
 use Rattle.cj_locked.specs.Looking.{IsPickOf}
-use Rattle.cj_locked.proofs.Fresh.{locked_after_read}
+use Rattle.cj_locked.proofs.Balancing.{locked_after_read}
 use Rattle.cj_locked.proofs.Looking.{picks_none, picks_some, rest_below}
 use Rattle.cj_locked.proofs.book.LockedBook.pick.Goals as goal
 use Rattle.cj_locked.proofs.book.LockedBook.pick.Goals.{in-None, in-Some}
@@ -15,10 +15,10 @@ pick-requires g c = rest_below c.args.serving c.args.tried c.without.result c.re
 pub invariant_of-self : goal.invariant_of-self
 invariant_of-self g c =
     elim c.match-pick.branch [
-      | in-Some w ↦ locked_after_read g.J.Naming.board g.J.Naming.layout g.J.Naming.tells g.S.Store.tells g.S.Store.faults c.self.inside.ledger.total c.self.inside.book c.pick.new.self _ c.pick.ensures.seat c.self.invariant
-          c.self.inside.book.state.cache (read_at c.self.inside.book.state.balance w.in-Some.b) w.in-Some.ensures.some.stands c.self.invariant.fresh
-      | in-None w ↦ locked_after_read g.J.Naming.board g.J.Naming.layout g.J.Naming.tells g.S.Store.tells g.S.Store.faults c.self.inside.ledger.total c.self.inside.book c.pick.new.self _ c.pick.ensures.seat c.self.invariant
-          c.self.inside.book.state.cache c.self.inside.book.state.balance (c.pick.ensures.same (ap is_some w.in-None.is)) c.self.invariant.fresh
+      | in-Some w ↦ locked_after_read g.J.Naming.board g.J.Naming.layout g.S.Store.tells g.S.Store.faults c.self.inside.ledger.total c.self.inside.book c.pick.new.self _ c.pick.ensures.seat c.self.invariant
+          (read_at c.self.inside.book.state.balance w.in-Some.b) w.in-Some.ensures.some.stands
+      | in-None w ↦ locked_after_read g.J.Naming.board g.J.Naming.layout g.S.Store.tells g.S.Store.faults c.self.inside.ledger.total c.self.inside.book c.pick.new.self _ c.pick.ensures.seat c.self.invariant
+          c.self.inside.book.state.balance (c.pick.ensures.same (ap is_some w.in-None.is))
     ]
 
 pub returns-clause-picks : goal.returns-clause-picks

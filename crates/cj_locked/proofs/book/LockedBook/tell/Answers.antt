@@ -11,8 +11,8 @@ pub invariant_of-self : goal.invariant_of-self
 invariant_of-self g c =
     let old = c.self.inside.book in
     let new = c.tell.new.self in
-    locked_still g.J.Naming.board g.J.Naming.layout g.J.Naming.tells g.S.Store.tells g.S.Store.faults c.self.inside.ledger.total old new _ c.self.invariant (ap (λ (x : BookState). x.history) c.tell.ensures.state) c.tell.ensures.pending c.tell.ensures.board.0
-    (ap (λ (x : BookState). x.layout) c.tell.ensures.state) (ap (λ (x : BookState). x.cache) c.tell.ensures.state) (c.tell.ensures.still_gives c.self.invariant.gives)
+    locked_still g.J.Naming.board g.J.Naming.layout g.S.Store.tells g.S.Store.faults c.self.inside.ledger.total old new _ c.self.invariant (ap (λ (x : BookState). x.history) c.tell.ensures.state) c.tell.ensures.pending c.tell.ensures.board.0
+    (ap (λ (x : BookState). x.layout) c.tell.ensures.state) (c.tell.ensures.still_gives c.self.invariant.gives)
     (still_noted old.view new.view (keeps_learning old.view (pass_without_tokens (pass_view c.args.pass.now.seat)) new.view c.tell.ensures.book) c.self.invariant.noted)
 
 pub returns-clause-more : goal.returns-clause-more
