@@ -1,5 +1,5 @@
 -- What a shard of the result cache gives, and what a look at it leaves.
-use Rattle.std.specs.Prelude.{◌≡◌, ◌×◌, ◌⊎◌, ℕ, Bool, true, false, List, fold}
+use Rattle.std.specs.Prelude.{◌≡◌, ◌⊎◌, ℕ, Bool, true, false, List, fold}
 use Rattle.std.specs.declared.result.Result.{Result}
 use Rattle.std.specs.declared.result.Result.TheVariants.{Ok, Err}
 use Rattle.cj_model.specs.declared.memory.NoMemory.{NoMemory}
@@ -9,10 +9,26 @@ use Rattle.cj_model.specs.Cluster.Caching.{CacheState, after_look, has_answer, w
 use Rattle.cj_model.specs.Cluster.Placements.{Placement}
 use Rattle.cj_cluster.specs.declared.event.Event.{Event}
 use Rattle.cj_cluster.specs.History.Answering.{HasNoServer, HasServer}
+use Rattle.cj_cluster.specs.History.Freshness.{IsFreshCache}
+use Rattle.cj_cluster.specs.History.Histories.{log}
 use Rattle.cj_cluster.specs.History.Legality.{IsLegal}
-use Rattle.cj_book.specs.News.{IsOwedAt, IsRightAt}
+use Rattle.cj_book.specs.declared.news.Heard.{Heard}
+use Rattle.cj_book.specs.News.{IsHeard, IsOwedAt, IsRightAt}
 use Rattle.cj_cache_shard.specs.declared.shard.Found.{Found}
 use Rattle.cj_cache_shard.specs.declared.shard.Found.TheVariants.{Kept, Absent, Behind}
+
+-- what contracts see of a shard: its cache, the history that it has heard of, and how far that goes
+pub record ShardState : Type 0 where
+  pub cache : CacheState
+  pub front : List Event
+  pub heard : Heard
+
+-- It has heard of a legal history, and how far that goes. Each kept answer is fresh there, and right if the backends
+-- tell what they hold.
+pub record IsShard (tells : Bool) (x : ShardState) : Type 0 where
+  pub legal : IsLegal x.front
+  pub hears : IsHeard x.front x.heard
+  pub fresh : IsFreshCache tells (log x.front) x.cache
 
 -- a kept answer is right at history h, which is all that there was at the look, at a position that its session is owed
 abbrev pub IsFound : Bool → Placement → List Event → Select → ℕ → Found → Type 0

@@ -1,13 +1,11 @@
 //! A shard of the result cache.
 
-ghost use Rattle.std.specs.Prelude.{◌≡◌, ◌≢◌, ◌↔◌, ◌≤◌, ◌<◌, ◌+◌, [], ℕ, true, length, IfOk, IfSome, IsNone, Ok};
+ghost use Rattle.std.specs.Prelude.{List, ◌≡◌, ◌≢◌, ◌↔◌, ◌≤◌, [], true, length, IfOk, IfSome, Ok};
 ghost use Rattle.cj_model.specs.declared.answer.Asked.TheVariants.{Rows};
-ghost use Rattle.cj_model.specs.declared.request.Request.TheVariants as request;
-ghost use Rattle.cj_model.specs.Cluster.Caching.{CacheState, after_keep, without_tables};
+ghost use Rattle.cj_model.specs.Cluster.Caching.{after_keep};
 ghost use Rattle.cj_model.specs.Database.Outcomes.{IsAnswer};
 ghost use Rattle.cj_cluster.specs.declared.event.Event.{Event};
-ghost use Rattle.cj_cluster.specs.History.Answering.{HasServer};
-ghost use Rattle.cj_cluster.specs.History.Freshness.{IsAnswerAt, IsFreshCache};
+ghost use Rattle.cj_cluster.specs.History.Freshness.{IsAnswerAt};
 ghost use Rattle.cj_cluster.specs.History.Histories.{log};
 ghost use Rattle.cj_cluster.specs.History.Legality.{IsLegal};
 ghost use Rattle.cj_place.specs.Layouts.{placement_of};
@@ -22,18 +20,32 @@ use cj_model::{Answer, Cached, NoMemory, Select, TableSet};
 use cj_pass::{NamedBoard, Naming, Pass};
 use cj_place::Placement;
 use std::alloc::Global;
+use std::marker::Model;
 use std::sync::Arc;
 
 /// Some of the answers that the result cache keeps, for a cluster at the board and the layout that `J` names.
 #[derive(Drop)]
 pub struct CacheShard<J: Naming> {
-    pub cache: Cache,
+    cache: Cache,
     /// It has seen what the shard has heard of.
-    pub pass: Pass<J>,
-    pub heard: Heard,
-    ghost legal: { IsLegal (front pass.seat) },
-    ghost hears: { IsHeard (front pass.seat) heard },
-    ghost fresh: { IsFreshCache J.tells (log (front pass.seat)) cache },
+    pass: Pass<J>,
+    heard: Heard,
+}
+
+impl<J: Naming> Model for CacheShard<J> {
+    ghost use Rattle.cj_board.specs.Seats.{front};
+    ghost use Rattle.cj_cache_shard.specs.Shards.{IsShard, ShardState};
+
+    ghost Value = { ShardState };
+
+    ghost use Rattle.std.specs.Coded.{codes};
+    ghost use Rattle.cj_model.specs.Proving.ConditionCode.{coded_condition};
+
+    ghost coded = { Prim.hlevel (codes, coded_condition) };
+
+    ghost view = { λ x. record { cache = x.cache; front = front x.pass.seat; heard = x.heard } };
+
+    ghost invariant = { λ x. IsShard J.tells (record { cache = x.cache; front = front x.pass.seat; heard = x.heard }) };
 }
 
 /// What a shard has of a query.
@@ -79,7 +91,7 @@ impl<J: Naming> CacheShard<J> {
         requires heard { IsHeard (front pass.old.seat) heard }
         requires empty { cache.entries ≡ [] }
         ensures same { pass_view pass.new.seat ≡ pass_view pass.old.seat }
-        ensures cache { result.cache ≡ cache }
+        ensures shard { result ≡ record { cache = cache; front = front pass.old.seat; heard = heard } }
     {
         let pass = board.split(pass);
         CacheShard { cache, pass, heard }
@@ -101,9 +113,9 @@ impl<J: Naming> CacheShard<J> {
         requires laid { placement.now ≡ J.layout }
         requires owes { least ≤ length (log (front pass.old.seat)) }
         ensures found { IfOk result (IsFound J.tells (placement_of J.layout) (front pass.new.seat) select.now least) }
-        ensures looks { LooksInShard (placement_of J.layout) (front self.old.pass.seat) self.old.heard.entries select.now self.old.cache result self.new.cache }
+        ensures looks { LooksInShard (placement_of J.layout) self.old.front self.old.heard.entries select.now self.old.cache result self.new.cache }
         ensures more { HasNotedMore (pass_view pass.old.seat) (pass_view pass.new.seat) }
-        ensures heard { self.new.heard ≡ self.old.heard }
+        ensures heard { (self.new.front ≡ self.old.front) × (self.new.heard ≡ self.old.heard) }
     {
         if !self.is_current(board, pass) {
             return Ok(Found::Behind(self.heard.entries));
@@ -121,11 +133,9 @@ impl<J: Naming> CacheShard<J> {
     /// Whether the shard has heard of all events that there are at a moment of the call. If so, the pass has seen
     /// exactly these then.
     fn is_current(&mut self, board: &NamedBoard<J>, pass: &mut Pass<J>) -> bool
-        ensures current { result ≡ true → front pass.new.seat ≡ front self.old.pass.seat }
-        ensures seen { result ≡ true → length (log (front pass.old.seat)) ≤ length (log (front self.old.pass.seat)) }
+        ensures current { result ≡ true → front pass.new.seat ≡ self.old.front }
         ensures more { HasNotedMore (pass_view pass.old.seat) (pass_view pass.new.seat) }
-        ensures same { pass_view self.new.pass.seat ≡ pass_view self.old.pass.seat }
-        ensures cache { (self.new.cache ≡ self.old.cache) × (self.new.heard ≡ self.old.heard) }
+        ensures same { self.new ≡ self.old }
     {
         let mut both = board.split(&mut self.pass);
         let known = board.split(pass);
@@ -173,7 +183,7 @@ impl<J: Naming> CacheShard<J> {
         ensures here { IfOk result (λ kept. (kept ≡ true) ↔ (answered.at ≡ self.old.heard.entries)) }
         ensures kept { result ≡ Ok true → self.new.cache ≡ after_keep answered self.old.cache }
         ensures dropped { result ≢ Ok true → self.new.cache ≡ self.old.cache }
-        ensures heard { self.new.heard ≡ self.old.heard }
+        ensures heard { (self.new.front ≡ self.old.front) × (self.new.heard ≡ self.old.heard) }
         ensures same { pass_view pass.new.seat ≡ pass_view pass.old.seat }
     {
         if answered.at != self.heard.entries {
