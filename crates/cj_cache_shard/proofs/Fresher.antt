@@ -27,7 +27,7 @@ use Rattle.cj_cluster.proofs.FreshAnswers.{by_tables, fresh_next, fresh_now}
 use Rattle.cj_cluster.proofs.Pushed.{at-prefix, log-prefix, take_whole}
 use Rattle.cj_cluster.proofs.TransactionLaws.{legal_fit}
 use Rattle.cj_book.specs.Touching.{has_table}
-use Rattle.cj_cache_shard.specs.Shards.{without_each}
+use Rattle.cj_cache_shard.specs.Shards.{with_each_dropped}
 
 -- ---- a kept answer
 
@@ -101,7 +101,7 @@ fresh_past told entries set k c lt touched fresh =
 
 -- all entries that are left, the tables of each of which are dropped
 pub fresh_over : (told : Bool) (entries : List Entry) (sets : List (List (List ℕ))) (k : ℕ) (c : CacheState) → ((i : ℕ) → i < length sets → (table : List ℕ) → has_table (get_or sets i []) table ≡ touches entries (k + i) table)
-    → k + length sets ≡ length entries → IsFreshCache told (take k entries) c → IsFreshCache told entries (without_each sets c)
+    → k + length sets ≡ length entries → IsFreshCache told (take k entries) c → IsFreshCache told entries (with_each_dropped sets c)
 fresh_over told entries [] k c each whole fresh = let all : length entries ≤ k = omega arith in subst (λ (l : List Entry). IsFreshCache told l c) (take_all k entries all) fresh
 fresh_over told entries (set ∷ sets) k c each whole fresh =
     let lt : k < length entries = omega arith in
@@ -112,5 +112,5 @@ fresh_over told entries (set ∷ sets) k c each whole fresh =
 
 -- A shard has heard of history S, a beginning of H, and its cache is fresh there. So it is in H, without what is touched after S.
 pub fresh_later : (told : Bool) (S H : List Event) → IsPrefix S H → (sets : List (List (List ℕ))) (c : CacheState)
-    → ((i : ℕ) → i < length sets → (table : List ℕ) → has_table (get_or sets i []) table ≡ touches (log H) (length (log S) + i) table) → length (log S) + length sets ≡ length (log H) → IsFreshCache told (log S) c → IsFreshCache told (log H) (without_each sets c)
+    → ((i : ℕ) → i < length sets → (table : List ℕ) → has_table (get_or sets i []) table ≡ touches (log H) (length (log S) + i) table) → length (log S) + length sets ≡ length (log H) → IsFreshCache told (log S) c → IsFreshCache told (log H) (with_each_dropped sets c)
 fresh_later told S H longer sets c each whole fresh = fresh_over told (log H) sets (length (log S)) c each whole (subst (λ (l : List Entry). IsFreshCache told l c) (sym (take_whole (log S) (log H) (log-prefix S H longer))) fresh)

@@ -45,5 +45,5 @@ LooksInShard p h entries select old (Ok (Behind n)) new = (n ≡ entries) × (ne
 LooksInShard p h entries select old (Err e) new = HasServer p h (request.Select select) × (has_answer select old ≡ true) × (new ≡ after_look select old)
 
 -- the cache without the answers that need a table of one of the sets
-abbrev pub without_each : List (List (List ℕ)) → CacheState → CacheState
-without_each sets c = fold (λ left set. without_tables set left) c sets
+abbrev pub with_each_dropped : List (List (List ℕ)) → CacheState → CacheState
+with_each_dropped sets c = fold (λ left set. without_tables set left) c sets

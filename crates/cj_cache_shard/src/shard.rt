@@ -12,7 +12,7 @@ ghost use Rattle.cj_place.specs.Layouts.{placement_of};
 ghost use Rattle.cj_board.specs.Seats.{front, pass_view};
 ghost use Rattle.cj_book.specs.News.{AreTouchedFrom, IsHeard, IsNewsFrom};
 ghost use Rattle.cj_pass.specs.Passes.{HasNotedMore};
-ghost use Rattle.cj_cache_shard.specs.Shards.{IsFound, LooksInShard, without_each};
+ghost use Rattle.cj_cache_shard.specs.Shards.{IsFound, LooksInShard, with_each_dropped};
 
 use cj_book::{Heard, News, SharedAnswer};
 use cj_cache::Cache;
@@ -61,7 +61,7 @@ pub enum Found {
 
 /// Drops the answers whose queries need a table of one of the sets.
 fn drop_each(cache: &mut Cache, touched: &[TableSet])
-    ensures { cache.new ≡ without_each touched.now cache.old }
+    ensures { cache.new ≡ with_each_dropped touched.now cache.old }
 {
     for set in touched {
         cache.drop_needing(set);
