@@ -60,7 +60,7 @@ returns-in-Looked-Tried-clause-ended g c = λ F before all.
     let tried = bit_or c.args.tries.now.failed c.args.tries.now.later in
     let failed = c.args.tries.now.failed in
     let mask = c.in-Looked-Tried.serving in
-    let looked = look_is p m query.select.now query.least tried c.in-Looked-Tried.field-0 (Tried mask) c.in-Looked-Tried.field-0-is c.in-Looked-Tried.ensures.sought in
+    let looked = look_is p m query.select.now query.least tried _ (Tried mask) c.in-Looked-Tried.field-0-is c.in-Looked-Tried.ensures.sought in
     some_weaker (λ (r : Reply × ℕ). (r.0 ≡ Refused (record { code = READ_FAULT; a = mask; b = 0 })) × (r.1 ≡ query.least) × ((b : ℕ) → in_mask mask b ≡ true → in_mask failed b ≡ true))
     (λ (r : Reply × ℕ). EndsRead tells p F query.session query.seq query.tx query.select.now query.least m r.0 r.1)
     (λ r x. ends_in_vain tells p F m query.session query.seq query.tx query.select.now query.least tried failed mask r.0 r.1 (prefix_trans F h m before more) looked (all_still F h m query.session query.seq failed more all) x.2 x.0 x.1)
@@ -79,7 +79,7 @@ returns-in-Looked-Unserved-clause-ended g c = λ F before all.
     let p = placement_of g.J.Naming.layout in
     let m = front c.look_for-looked.new.pass.seat in
     let tried = bit_or c.args.tries.now.failed c.args.tries.now.later in
-    let looked = look_is p m query.select.now query.least tried c.in-Looked-Unserved.field-0 Unserved c.in-Looked-Unserved.field-0-is c.in-Looked-Unserved.ensures.sought in
+    let looked = look_is p m query.select.now query.least tried _ Unserved c.in-Looked-Unserved.field-0-is c.in-Looked-Unserved.ensures.sought in
     ends_unserved g.B.Backend.tells p F m m query.session query.seq query.tx query.select.now query.least (Refused c.of_code.result) query.least (prefix_trans F (front c.args.pass.now.seat) m before c.look_for-looked.ensures.more.seen.front) (prefix_self m) looked
     (ap (λ (r : Refusal). Refused r) c.of_code.ensures) refl
 
