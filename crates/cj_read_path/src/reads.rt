@@ -29,6 +29,7 @@ ghost use Rattle.cj_cache_shard.specs.declared.shard.Found.TheVariants.{Kept};
 ghost use Rattle.cj_cache_shard.specs.Shards.{IsFound};
 ghost use Rattle.cj_pass.specs.Passes.{HasNotedMore, HasSeenMore};
 ghost use Rattle.cj_locked_cell.specs.Answering.{GivesAnswerAt, IsReadAnswer, IsReading};
+ghost use Rattle.cj_locked.specs.Looking.{IsLookAt};
 ghost use Rattle.cj_locked.specs.Reading.{call_of_query, EndsRead};
 ghost use Rattle.cj_locked.specs.Writing.{AreUpTo};
 ghost use Rattle.cj_read_path.specs.Reading.{HaveFailedSince, IsAttempt, IsSoughtAt};
@@ -541,6 +542,31 @@ fn reply_kept<J: Naming, B: Backend, S: Store + Drop>(
     }
 }
 
+/// Does what follows a look at the book, in which the query was to be answered by a backend of those that were not tried.
+/// None where the query goes on.
+fn follow<J: Naming, B: Backend, S: Store + Drop, R: Wait>(
+    locks: &Locks<J, B, S>,
+    rt: &R,
+    pass: &mut Pass<J>,
+    query: &Query<'_>,
+    tries: &mut Tries,
+    look: Look,
+) -> Option<(Reply, u64)>
+    requires written { IsWritten (request.Select query.now.select.now) }
+    requires look { (tried : ℕ) × IsLookAt (placement_of J.layout) (front pass.old.seat) query.now.select.now query.now.least tried look }
+    requires legal { IsLegal (front pass.old.seat) }
+    ensures ended { (F : List Event) → IsPrefix F (front pass.old.seat) → HaveFailedSince F (front pass.old.seat) query.now.session query.now.seq tries.old.failed → IfSome result (λ r. EndsRead B.tells (placement_of J.layout) F query.now.session query.now.seq query.now.tx query.now.select.now query.now.least (front pass.new.seat) r.0 r.1) }
+    ensures failed { (F : List Event) → IsPrefix F (front pass.old.seat) → HaveFailedSince F (front pass.old.seat) query.now.session query.now.seq tries.old.failed → HaveFailedSince F (front pass.new.seat) query.now.session query.now.seq tries.new.failed }
+    ensures seen { HasSeenMore (pass_view pass.old.seat) (pass_view pass.new.seat) }
+    ensures legal { IsLegal (front pass.new.seat) }
+{
+    match look {
+        Look::Ask(b, owed) => try_at(locks, rt, pass, query, tries, b, owed),
+        Look::Tried(serving) => tried_all(locks, rt, query, tries, serving),
+        Look::Unserved => Some((Reply::Refused(Refusal::of_code(NO_BACKEND)), query.least)),
+    }
+}
+
 /// Looks once where the query may be answered, and does what follows. None where the query goes on.
 fn round<J: Naming, B: Backend, S: Store + Drop, R: Wait>(
     locks: &Locks<J, B, S>,
@@ -561,11 +587,7 @@ fn round<J: Naming, B: Backend, S: Store + Drop, R: Wait>(
     tries.first = false;
     match looked {
         Sought::Kept(answer, at) => Some(reply_kept(locks, query, &answer, at)),
-        Sought::Looked(Look::Ask(b, owed)) => try_at(locks, rt, pass, query, tries, b, owed),
-        Sought::Looked(Look::Tried(serving)) => tried_all(locks, rt, query, tries, serving),
-        Sought::Looked(Look::Unserved) => {
-            Some((Reply::Refused(Refusal::of_code(NO_BACKEND)), query.least))
-        }
+        Sought::Looked(look) => follow(locks, rt, pass, query, tries, look),
     }
 }
 

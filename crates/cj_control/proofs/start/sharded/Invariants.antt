@@ -8,7 +8,8 @@ invariant-loop-cache g l =
     record {
       same : pass_view l.pass.seat ≡ pass_view l.fn.pass.seat;
       empty : All (λ (c : CacheState). c.entries ≡ []) l.caches.items;
-      room : length l.shards.items + length l.caches.items ≤ vec_capacity l.shards;
+      count : length l.shards.items + length l.caches.items ≡ length l.fn.shards.items + length l.fn.caches.items;
+      room : length l.fn.shards.items + length l.fn.caches.items ≤ vec_capacity l.shards;
     }
 
 abbrev pub decreases-loop-cache : goal.decreases-loop-cache
