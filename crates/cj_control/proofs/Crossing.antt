@@ -20,6 +20,8 @@ use Rattle.cj_replica.specs.contracts.cell.Cell as cell
 use Rattle.cj_pass.specs.declared.naming.Naming as naming
 use Rattle.cj_pass.specs.contracts.pass.Pass as pass
 use Rattle.cj_pass.specs.contracts.pass.NamedBoard as named_board
+use Rattle.cj_cache_shard.specs.contracts.shard.CacheShard as shard
+use Rattle.cj_cache_shard.specs.contracts.shard.CacheShard.TheInside as shard_inside
 use Rattle.cj_locked.specs.contracts.book.LockedBook as locked_book
 use Rattle.cj_locked.specs.contracts.book.LockedBook.TheInside as locked_book_inside
 use Rattle.cj_locked_cell.specs.contracts.cell.LockedCell as locked_cell
@@ -182,6 +184,25 @@ named_board_send J n sj = search (board_send, sendable) depth 40
 pub pass_send : (J : RattleType) (n : naming.Ghosts J.Denot) → IsSend J → IsSend (pass.the_row J n)
 pass_send J n sj = search (event_send, seat.the_send, sendable) depth 40
 
+-- ---- the shards of the result cache
+
+shard_fields : (J : RattleType) (n : naming.Ghosts J.Denot) → IsSend J → IsSend (shard_inside.the_row J n)
+shard_fields J n sj = recorded_send (shard_inside.the_field J n).row _ _ (shard_inside.the_type J n).to_one (struct_send (shape (shard_inside.the_type J n)) (
+  search (cache_send, sendable) depth 60 fits 20000,
+  (
+    search (pass_send, sendable) depth 40,
+    (
+      search sendable,
+      tt,
+    ),
+  ),
+))
+
+shard_send : (J : RattleType) (n : naming.Ghosts J.Denot) → IsSend J → IsSend (shard.the_row J n)
+shard_send J n sj = view_send _ _ _ _ _ (shard_fields J n sj)
+
+-- ---- the locks
+
 locks_sync : (J B S T : RattleType) (n : naming.Ghosts J.Denot) (b : backend.Ghosts B.Denot T.Denot) (t : snap.Ghosts T.Denot) (s : store.Ghosts S.Denot) → IsSend J → IsSync J → IsSend B → IsSend S → IsSync (locks.the_field J B S T n b t s).row
 locks_sync J B S T n b t s sj yj sb ss = struct_sync (shape (locks.the_type J B S T n b t s)) (
   search (heap.crosses, sendable) depth 20,
@@ -202,7 +223,7 @@ locks_sync J B S T n b t s sj yj sb ss = struct_sync (shape (locks.the_type J B 
                 (
                   search (heap.crosses, sendable) depth 60 fits 20000,
                   (
-                    search (heap.crosses, sendable) depth 20,
+                    search (shard_send, heap.crosses, sendable) depth 60 fits 20000,
                     (
                       search (heap.crosses, sendable) depth 20,
                       tt,
@@ -241,7 +262,7 @@ locks_send J B S T n b t s sj sb ss = struct_send (shape (locks.the_type J B S T
                 (
                   search (heap.crosses, sendable) depth 60 fits 20000,
                   (
-                    search (heap.crosses, sendable) depth 20,
+                    search (shard_send, heap.crosses, sendable) depth 60 fits 20000,
                     (
                       search (heap.crosses, sendable) depth 20,
                       tt,
