@@ -190,9 +190,9 @@ shard_fields : (J : RattleType) (n : naming.Ghosts J.Denot) → IsSend J → IsS
 shard_fields J n sj = recorded_send (shard_inside.the_field J n).row _ _ (shard_inside.the_type J n).to_one (struct_send (shape (shard_inside.the_type J n)) (
   search (cache_send, sendable) depth 60 fits 20000,
   (
-    search (pass_send, sendable) depth 40,
+    search (event_send, seat.the_send, sendable) depth 40,
     (
-      search sendable,
+      search (heap.crosses, sendable) depth 60 fits 20000,
       tt,
     ),
   ),
