@@ -1,9 +1,8 @@
 -- Looks at backends, one after another, and that their lines are texts.
-use Rattle.std.proofs.Common.{◌≡◌, ◌⊎◌, inl, inr, ℕ, ◌+◌, ◌<◌, ◌≤◌, Bool, true, false, codes, refl, List, [], ◌∷◌, ◌++◌, length, Contains, IfSome, Option, Some, None, slice_index_or, get_or, ap, sym, ◌∙◌, subst, arith, length-append}
+use Rattle.std.proofs.Common.{◌≡◌, ◌⊎◌, inl, inr, ℕ, ◌+◌, ◌<◌, ◌≤◌, Bool, true, false, codes, refl, List, [], ◌∷◌, ◌++◌, length, Contains, IfSome, Option, Some, None, slice_index_or, sym, ◌∙◌, subst, arith, length-append}
 use mathlib.Core.List.{IsPrefix}
 use Rattle.std.proofs.lemmas.Bool.{cases_lt}
 use Rattle.std.proofs.lemmas.List.{get_or_append_left, get_or-append-add}
-use Rattle.std.specs.List.{flat_map, range_with_len}
 use Rattle.cj_board.specs.declared.view.SeatView.{SeatView}
 use Rattle.cj_cluster.specs.declared.event.Event.{Event}
 use Rattle.cj_cluster.specs.History.Histories.{is_enabled, is_free, log}

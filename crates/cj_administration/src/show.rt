@@ -1,6 +1,6 @@
 //! What the administrator is shown.
 
-ghost use Rattle.std.specs.Prelude.{◌≡◌, ◌++◌, ℕ, List, true, length, map, option_copied, Some, Contains, IfOk, IfSome, OnOk};
+ghost use Rattle.std.specs.Prelude.{◌≡◌, ◌++◌, List, true, length, map, option_copied, Some, Contains, IfOk, IfSome, OnOk};
 ghost use Rattle.std.specs.Fmt.{decimal};
 ghost use mathlib.Core.List.{IsPrefix};
 ghost use Rattle.cj_model.specs.Cluster.Masks.{in_mask};

@@ -1,6 +1,6 @@
 //! Which lists of accounts are refused, and why.
 
-ghost use Rattle.std.specs.Prelude.{◌≡◌, ◌⊎◌, [], length, not, option_copied, IfErr, IfOk, IsOk, None, Some};
+ghost use Rattle.std.specs.Prelude.{◌≡◌, ◌⊎◌, [], not, option_copied, IfErr, IfOk, IsOk, None, Some};
 ghost use Rattle.cj_model.specs.Cluster.Accounts as accounts;
 ghost use Rattle.cj_model.specs.Cluster.Accounts.{has_logins, user_where};
 ghost use Rattle.cj_auth.specs.Digests.{is_digest};

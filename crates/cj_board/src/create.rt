@@ -1,5 +1,5 @@
 // A new board, and its seats.
-ghost use Rattle.std.specs.Prelude.{◌≡◌, ◌<◌, ◌≤◌, [], length, IfOk};
+ghost use Rattle.std.specs.Prelude.{◌≡◌, ◌<◌, ◌≤◌, length, IfOk};
 ghost use Rattle.cj_model.specs.declared.limits.TheConstants.{BACKEND_LIMIT};
 ghost use Rattle.cj_board.specs.Seats.{board_id, book_board, pass_board, cell_board, book_view, cell_view, pass_view, AreNewCells};
 ghost use Rattle.cj_board.specs.Steps.{after_making_cell};

@@ -1,6 +1,5 @@
 -- Who serves a request.
-use Rattle.std.proofs.Common.{◌≡◌, ◌≢◌, ℕ, zero, suc, min, arith, ◌+◌, ◌-◌, ◌*◌, ◌/◌, ◌%◌, ◌<◌, ◌≤◌, ◌^◌, ◌==◌, ◌&&◌, ⊎_elim, Bool, true, false, List, [], ◌∷◌, length, take, get_or, Some, refl, ap, sym, ◌∙◌, bit_and}
-use Rattle.std.proofs.lemmas.List.Folds.{list_all_more}
+use Rattle.std.proofs.Common.{◌≡◌, ◌≢◌, ℕ, zero, suc, min, arith, ◌+◌, ◌-◌, ◌*◌, ◌/◌, ◌%◌, ◌<◌, ◌≤◌, ◌^◌, ◌==◌, ◌&&◌, ⊎_elim, Bool, true, false, List, [], ◌∷◌, Some, refl, ap, sym, ◌∙◌, bit_and}
 use Rattle.std.proofs.lemmas.Nat.Bits.{and_high, bit_at_above, bit_at_and, bit_at-lt, bit_at_ones, bit_at_ones_above, same_from_bits}
 use Rattle.std.specs.Int.{bit_at}
 use Rattle.cj_book.proofs.Common.{Act, and_parts, both_ways, cases_lt, eq-eqb, Event, has-and, HasServer, hosts, hosts_all, in_mask, is_enabled, needs, Placement, Request, request_of, table_changed}

@@ -1,5 +1,5 @@
 -- The lists of a set's tables name each kept statement that needs one of them: without these, the other entries are left.
-use Rattle.std.proofs.Common.{◌≡◌, ℕ, Bool, true, false, ◌&&◌, ◌||◌, cond, not, ◌<◌, List, [], ◌∷◌, ◌++◌, filter, get_or, length, map, slice_index_or, refl, sym, subst, ap, ◌∙◌, ⊎_elim}
+use Rattle.std.proofs.Common.{◌≡◌, ℕ, Bool, true, false, ◌&&◌, ◌||◌, cond, not, ◌<◌, List, [], ◌∷◌, filter, get_or, length, map, slice_index_or, refl, sym, subst, ap, ◌∙◌, ⊎_elim}
 use Rattle.std.specs.Prelude.{All, IfSome, find, is_some}
 use Rattle.std.specs.List.{IsDistinct, cons_option, list_any}
 use Rattle.std.specs.declared.option.Option.{Option}

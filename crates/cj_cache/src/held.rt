@@ -2,7 +2,7 @@
 //!
 //! Answers are shared. A reader that holds a lock takes a share in constant time, and copies the rows after it.
 
-ghost use Rattle.std.specs.Prelude.{◌≡◌, false, not, [], ◌∷◌, All, filter, is_some, option_copied, option_map, slice_get, take, IfOk, OnOk, OnErr};
+ghost use Rattle.std.specs.Prelude.{◌≡◌, false, not, ◌∷◌, All, filter, is_some, option_copied, option_map, slice_get, take, IfOk, OnOk, OnErr};
 ghost use Rattle.std.specs.List.{list_any};
 ghost use Rattle.std.specs.Str.{bytes_eq};
 ghost use Rattle.cj_model.specs.Cluster.Caching.{brought_to_front, cached_entry, without};

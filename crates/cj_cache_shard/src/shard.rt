@@ -1,6 +1,6 @@
 //! A shard of the result cache.
 
-ghost use Rattle.std.specs.Prelude.{List, ◌≡◌, ◌≢◌, ◌↔◌, ◌≤◌, [], true, length, IfOk, IfSome, Ok};
+ghost use Rattle.std.specs.Prelude.{List, ℕ, ◌≡◌, ◌≢◌, ◌↔◌, ◌⊎◌, ◌+◌, ◌<◌, ◌≤◌, [], true, length, drop, IfOk, IfSome, IsNone, Ok};
 ghost use Rattle.cj_model.specs.declared.answer.Asked.TheVariants.{Rows};
 ghost use Rattle.cj_model.specs.Cluster.Caching.{after_keep};
 ghost use Rattle.cj_model.specs.Database.Outcomes.{IsAnswer};
@@ -70,7 +70,9 @@ fn drop_each(cache: &mut Cache, touched: &[TableSet])
 
 /// The tables that the entries after the first `entries` touch, a set for each. None where the news don't tell.
 fn touched_after(news: &News, entries: u64) -> Option<&[TableSet]>
-    ensures { (h : List Event) → IsNewsFrom h news.now.from news.now → IfSome result (λ sets. AreTouchedFrom (log h) entries sets.now) }
+    ensures touched { (h : List Event) → IsNewsFrom h news.now.from news.now → IfSome result (λ sets. AreTouchedFrom (log h) entries sets.now) }
+    ensures last { IfSome result (λ sets. IfSome news.now.touched (λ all. (k : ℕ) → news.now.from + k ≡ entries → sets.now ≡ drop k all.items)) }
+    ensures left_out { IsNone result → IfSome news.now.touched (λ all. (entries < news.now.from) ⊎ (news.now.from + length all.items < entries)) }
 {
     let Some(touched) = &news.touched else {
         return None;
@@ -147,13 +149,15 @@ impl<J: Naming> CacheShard<J> {
         true
     }
 
-    /// Hears the news of the history that the pass has seen, and drops the answers that they touch: where they don't
-    /// tell which, all. News of no more than the shard has heard of change nothing.
+    /// Hears the news of the history that the pass has seen, and drops just the answers that they touch: where they
+    /// don't tell which, all. News of no more than the shard has heard of change nothing.
     pub fn catch_up(&mut self, board: &NamedBoard<J>, pass: &mut Pass<J>, news: &News)
         requires legal { IsLegal (front pass.old.seat) }
         requires news { IsNewsFrom (front pass.old.seat) news.now.from news.now }
         ensures same { pass_view pass.new.seat ≡ pass_view pass.old.seat }
         ensures heard { news.now.heard.events ≤ self.new.heard.events }
+        ensures old_news { news.now.heard.events ≤ self.old.heard.events → self.new ≡ self.old }
+        ensures dropped { self.old.heard.events < news.now.heard.events → (k : ℕ) → news.now.from + k ≡ self.old.heard.entries → IfSome news.now.touched (λ all. self.new.cache ≡ with_each_dropped (drop k all.items) self.old.cache) }
     {
         if news.heard.events <= self.heard.events {
             return;

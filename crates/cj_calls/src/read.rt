@@ -10,7 +10,7 @@ ghost use Rattle.cj_cluster.specs.Moves.Cores.{session_at};
 ghost use Rattle.cj_cluster.specs.Moves.Moves as moves;
 ghost use Rattle.cj_calls.specs.Proving.SoloParts.{cache_answered, cache_attempted, AttemptsQuery, RepliesKept};
 ghost use Rattle.cj_calls.specs.WorldTurns.{call_of, StandsBetweenCalls, WorldTurn};
-ghost use Rattle.cj_calls.specs.CacheUse.{with_answer, ReadsWithCache};
+ghost use Rattle.cj_calls.specs.CacheUse.{ReadsWithCache};
 ghost use Rattle.cj_cluster.specs.History.Histories.{database_of, log};
 ghost use Rattle.cj_cluster.specs.Moves.Moves.{IsServingMask};
 ghost use Rattle.cj_model.specs.Cluster.Caching.{answer_kept};

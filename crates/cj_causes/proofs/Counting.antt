@@ -1,5 +1,5 @@
 -- How often the items of a list pass a test, where the list goes on.
-use Rattle.std.proofs.Common.{◌≡◌, ℕ, zero, suc, ◌+◌, ◌≤◌, Bool, true, false, cond, List, [], ◌∷◌, ◌++◌, length, slice_get, count_by, Some, refl, ap, sym, ◌∙◌, subst, arith}
+use Rattle.std.proofs.Common.{◌≡◌, ℕ, zero, suc, ◌+◌, ◌≤◌, Bool, true, cond, List, [], ◌∷◌, ◌++◌, length, slice_get, count_by, Some, ap, sym, ◌∙◌, arith}
 use mathlib.Core.List.{IsPrefix}
 use Rattle.std.proofs.lemmas.List.Sums.{sum_by-append, sum_by-cons}
 

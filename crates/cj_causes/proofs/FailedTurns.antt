@@ -1,5 +1,5 @@
 -- A turn that is told of a failure has failed, and noted it.
-use Rattle.std.proofs.Common.{◌≡◌, ◌≢◌, ◌⊎◌, inl, inr, ⊎_elim, ℕ, suc, ◌+◌, ◌-◌, ◌<◌, ◌≤◌, Bool, true, false, cond, ◌&&◌, ◌||◌, ◌==◌, List, [], ◌∷◌, ◌++◌, length, take, drop, slice_get, count_by, is_some, Some, refl, ap, sym, ◌∙◌, subst, arith, take-append-drop, eq-eqb, ne_eqb, eqb-true}
+use Rattle.std.proofs.Common.{◌≡◌, ◌≢◌, ◌⊎◌, inl, inr, ⊎_elim, ℕ, ◌+◌, ◌-◌, ◌<◌, ◌≤◌, Bool, true, false, cond, ◌&&◌, ◌||◌, ◌==◌, List, [], ◌∷◌, ◌++◌, length, take, drop, slice_get, count_by, is_some, Some, refl, ap, sym, ◌∙◌, arith, take-append-drop, eq-eqb, ne_eqb, eqb-true}
 use mathlib.Core.List.{IsPrefix}
 use Rattle.std.proofs.Math.Seq.{take-append-add}
 use Rattle.std.proofs.lemmas.Bool.{both_ways}
@@ -20,12 +20,12 @@ use Rattle.cj_model.specs.Wire.Replies.{asked_reply, outcome_reply}
 use Rattle.cj_cluster.specs.declared.event.Event.{Event}
 use Rattle.cj_cluster.specs.declared.event.Event.TheVariants.{Sched, Ended, ReadFailed, LogFailed, Disabled, Enabled, Marker}
 use Rattle.cj_cluster.specs.History.Answering.{AnswersEntry}
-use Rattle.cj_cluster.specs.History.Histories.{ended_count, failures_noted, is_free, log, masks_of_end, masks_of_ends, notes_failure}
+use Rattle.cj_cluster.specs.History.Histories.{failures_noted, is_free, log, masks_of_end, masks_of_ends, notes_failure}
 use Rattle.cj_cluster.specs.History.Turns.{Call, ScheduledTurn, SessionView, Turn, TurnCase, entry_of_call, scheduled, no_backend, read, read_fault, log_fault, full, starved}
-use Rattle.cj_cluster.proofs.Pushed.{length-ends, prefix_take}
-use Rattle.cj_board.specs.Counting.{log_failure_session, log_failure_sessions}
+use Rattle.cj_cluster.proofs.Pushed.{length-ends}
+use Rattle.cj_board.specs.Counting.{log_failure_session}
 use Rattle.cj_causes.proofs.Counting.{count-append, count-cons, fewer_before, one_behind}
-use Rattle.cj_causes.specs.Failures.{FailedTurn, UnfinishedTurn, blames_backend, blames_log, log_failures, tells_of_failure}
+use Rattle.cj_causes.specs.Failures.{FailedTurn, blames_backend, blames_log, log_failures, tells_of_failure}
 
 -- ---- replies
 

@@ -1,5 +1,5 @@
 -- A session is told of failures by its turns alone, and each of them was noted.
-use Rattle.std.proofs.Common.{◌≡◌, ◌⊎◌, inl, inr, ℕ, ◌+◌, ◌≤◌, Bool, true, false, cond, ◌==◌, if◌then◌else◌, List, [], ◌∷◌, ◌++◌, count_by, All, Option, Some, None, refl, ap, sym, ◌∙◌, subst, arith}
+use Rattle.std.proofs.Common.{◌≡◌, inl, inr, ℕ, ◌+◌, ◌≤◌, Bool, true, false, cond, ◌==◌, if◌then◌else◌, List, [], ◌∷◌, ◌++◌, All, Option, Some, None, refl, ap, sym, ◌∙◌, subst, arith}
 use mathlib.Core.List.{IsPrefix}
 use Rattle.std.proofs.lemmas.Bool.{both_ways}
 use Rattle.std.proofs.lemmas.List.Elements.{All-append, All-cons, All-nil, All-weaker}
@@ -7,7 +7,7 @@ use Rattle.cj_model.specs.declared.answer.Answer.{Answer}
 use Rattle.cj_model.specs.declared.answer.Refusal.{Refusal}
 use Rattle.cj_model.specs.declared.answer.Reply.{Reply}
 use Rattle.cj_model.specs.declared.answer.Reply.TheVariants.{Done, Rows, Stats, Refused}
-use Rattle.cj_model.specs.declared.codes.TheConstants.{IN_TRANSACTION, NO_TRANSACTION, SCHEMA_IN_TRANSACTION, UNFINISHED}
+use Rattle.cj_model.specs.declared.codes.TheConstants.{IN_TRANSACTION, NO_TRANSACTION, SCHEMA_IN_TRANSACTION}
 use Rattle.cj_model.specs.declared.message.Message.{Message}
 use Rattle.cj_model.specs.declared.message.Message.TheVariants as message
 use Rattle.cj_model.specs.declared.request.Act.{Act}
@@ -18,13 +18,13 @@ use Rattle.cj_model.specs.Cluster.Placements.{Placement}
 use Rattle.cj_cluster.specs.declared.event.Event.{Event}
 use Rattle.cj_cluster.specs.declared.session.SessionEnd.{SessionEnd}
 use Rattle.cj_cluster.specs.History.Histories.{failures_noted, notes_failure}
-use Rattle.cj_cluster.specs.History.Turns.{Call, SessionView, Turn}
+use Rattle.cj_cluster.specs.History.Turns.{Call, Turn}
 use Rattle.cj_cluster.specs.Moves.Moves.{forbidden_by}
 use Rattle.cj_cluster.proofs.Pushed.{prefix_self, prefix_trans}
 use Rattle.cj_desk.specs.DeskStates.{DeskCall, DeskState, DeskSteps, DeskTurn, cache_counted, desk_tx, query_skipped, turn_taken}
 use Rattle.cj_desk.specs.SessionTranscripts.{AnswersQuery, AnswersStats, ClientState, IsRefusedBefore, LeavesDesk, MessageExchange, MessageExchanges, SendsReply, SendsRows, SessionSetting, SessionTranscript, login_reply, refusal_by_transaction}
 use Rattle.cj_causes.proofs.Counting.{count-append, count-cons, fewer_before}
-use Rattle.cj_causes.proofs.FailedTurns.{blaming_log_tells, blaming_tells, failure_noted, log_failure_noted, log_failures_before, other_code, turn_failed}
+use Rattle.cj_causes.proofs.FailedTurns.{blaming_log_tells, blaming_tells, failure_noted, log_failure_noted, log_failures_before, turn_failed}
 use Rattle.cj_causes.specs.Failures.{CoverBlames, ToldByTurn, blames_backend, blames_log, log_failures, tells_of_failure}
 
 -- ---- replies that never come of a turn

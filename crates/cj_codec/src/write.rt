@@ -1,6 +1,6 @@
 //! Fields written at the end of bytes.
 
-ghost use Rattle.std.specs.Prelude.{◌<◌, ◌≤◌, ◌^◌, ◌∷◌, [], length};
+ghost use Rattle.std.specs.Prelude.{◌<◌, ◌^◌, ◌∷◌, [], length};
 ghost use Rattle.std.specs.Int.{w16, w32, w64, to_be_bytes};
 ghost use Rattle.cj_model.specs.Wire.Fields.{str16, str32};
 ghost use Rattle.cj_model.specs.Wire.Replies.{value_bytes};

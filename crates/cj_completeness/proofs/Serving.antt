@@ -1,17 +1,16 @@
 -- A serving over which no count of faults rose.
-use Rattle.std.proofs.Common.{◌≡◌, ◌≢◌, ◌⊎◌, inl, inr, ⊎_elim, ℕ, ◌-◌, ◌^◌, ◌<◌, ◌≤◌, Bool, true, List, [], ◌∷◌, ◌++◌, length, Option, Some, None, IfSome, Ok, Err, refl, sym, ap, subst, ◌∙◌, arith, length-append}
+use Rattle.std.proofs.Common.{◌≡◌, ◌≢◌, ◌⊎◌, inl, inr, ⊎_elim, ℕ, ◌-◌, ◌≤◌, Bool, true, List, [], ◌∷◌, ◌++◌, length, Option, Some, None, IfSome, Ok, Err, refl, sym, ap, subst, ◌∙◌, arith, length-append}
 use Rattle.std.specs.List.{AllByRecursion}
 use Rattle.std.specs.Io.KnownBytes.{Consumes}
-use Rattle.cj_outside.specs.Causes.{CountsFault, next}
+use Rattle.cj_outside.specs.Causes.{next}
 use Rattle.cj_outside.specs.Streams.{most}
-use Rattle.cj_cluster.specs.declared.event.Event.{Event}
 use Rattle.cj_args.specs.declared.asked.Command.TheVariants.{Script}
 use Rattle.cj_book.specs.declared.error.StartError.{StartError}
 use Rattle.cj_book.specs.declared.error.StartError.TheVariants as start_errors
 use Rattle.cj_conf.specs.Confs.{conf_of}
 use Rattle.cj_conf.specs.declared.conf.Conf.{Conf}
 use Rattle.cj_conf.specs.declared.error.ConfError.{ConfError}
-use Rattle.cj_dump.specs.Dumps.{IsDump, dump_bytes}
+use Rattle.cj_dump.specs.Dumps.{IsDump}
 use Rattle.cj_dump.specs.declared.dump.Dump.{Dump}
 use Rattle.cj_log.specs.declared.item.LogItem.{LogItem}
 use Rattle.cj_records.proofs.OneList.{one_list}
@@ -28,7 +27,7 @@ use Rattle.cj_serve.specs.declared.serving.ServeEnd.TheVariants as serve_end
 use Rattle.cj_served.specs.Servings.{status_of_serving}
 use Rattle.cj_top.proofs.Statuses.{goes_on}
 use Rattle.cj_top.specs.Logs.{RefusesLog, StopsAtLog, status_of_start}
-use Rattle.cj_top.specs.Runs.{AreConfBytes, RefusesConf, RunsCommand, RunsConfigured}
+use Rattle.cj_top.specs.Runs.{RefusesConf, RunsCommand, RunsConfigured}
 use Rattle.cj_program.specs.Served.{ComesByServe, Counted, RunsServe, StopsAtDumps, StopsUnserved, status_of_shelf}
 use Rattle.cj_completeness.proofs.QuietSessions.{did_not_fail}
 use Rattle.cj_completeness.specs.Serving.{CompletesServing, CountsNoFault, KeepsLog, KeepsShelf, TellsShortInput, is_console_end_by_input}

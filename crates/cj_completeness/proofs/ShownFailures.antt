@@ -1,5 +1,5 @@
 -- What an administrator is told to have failed shows.
-use Rattle.std.proofs.Common.{◌≡◌, ℕ, Bool, List, [], ◌∷◌, ◌++◌, Option, Err, refl, sym, subst}
+use Rattle.std.proofs.Common.{◌≡◌, ℕ, Bool, List, [], ◌∷◌, ◌++◌, Option, Err, sym, subst}
 use mathlib.Core.List.{IsPrefix}
 use Rattle.cj_model.specs.Cluster.Placements.{Placement}
 use Rattle.cj_cluster.specs.declared.event.Event.{Event}

@@ -1,6 +1,6 @@
 //! The values at the keys of a table.
 
-ghost use Rattle.std.specs.Prelude.{◌≡◌, ◌⊎◌, ◌≤◌, length, option_copied, option_map, IfErr, IfOk, IsOk, None, Some};
+ghost use Rattle.std.specs.Prelude.{◌≡◌, ◌⊎◌, ◌≤◌, length, option_map, IfErr, IfOk, IsOk, None, Some};
 ghost use Rattle.toml.specs.Data.{as_integer, as_str};
 ghost use Rattle.toml.specs.View.{table_view, view};
 ghost use Rattle.cj_model.specs.declared.limits.TheConstants.{USER_LIMIT};

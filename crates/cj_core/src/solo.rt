@@ -8,7 +8,6 @@ ghost use Rattle.cj_model.specs.declared.request.Request.TheVariants as requests
 ghost use Rattle.cj_model.specs.Sql.PlainRequests.{request_of};
 ghost use Rattle.cj_model.specs.Sql.WrittenRequests.{IsWritten};
 ghost use Rattle.cj_cluster.specs.History.Legality.{FitsTx};
-ghost use Rattle.cj_model.specs.declared.answer.Reply.TheVariants as replies;
 ghost use Rattle.cj_model.specs.declared.limits.TheConstants.{REQUEST_LIMIT, USER_LIMIT};
 ghost use Rattle.cj_cluster.specs.History.Histories.{is_free};
 ghost use Rattle.cj_cluster.specs.Moves.Cores.{session_at};

@@ -1,6 +1,6 @@
 //! A world: its state, and the moves that change it.
 
-ghost use Rattle.std.specs.Prelude.{◌≡◌, ◌↔◌, ◌≤◌, ℕ, length, map, true, All, IsNone, IfSome, IfOk, IsErrOf, MatchResult, OnErr, None, Ok};
+ghost use Rattle.std.specs.Prelude.{◌≡◌, ◌↔◌, ℕ, length, map, true, All, IsNone, IfSome, IfOk, IsErrOf, MatchResult, OnErr, None, Ok};
 ghost use mathlib.Core.List.{IsPrefix};
 ghost use Rattle.cj_cluster.specs.History.Legality.{IsLegal};
 ghost use Rattle.cj_cluster.specs.Moves.Moves.{MovesTo};

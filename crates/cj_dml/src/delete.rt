@@ -1,8 +1,7 @@
 //! DELETE.
 
-ghost use Rattle.std.specs.Prelude.{◌≡◌, map, option_map, IfOk};
+ghost use Rattle.std.specs.Prelude.{◌≡◌, map, IfOk};
 ghost use Rattle.std.specs.Map.Iter.{deref};
-ghost use Rattle.cj_model.specs.Database.Scopes as scopes;
 ghost use Rattle.cj_model.specs.Database.Updates as updates;
 ghost use Rattle.cj_dml.specs.Changes.{MakesChange};
 ghost use Rattle.cj_rowstore.specs.RowEntries as entries;

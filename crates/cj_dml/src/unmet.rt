@@ -1,6 +1,5 @@
 //! Rows that do not meet a condition.
 
-ghost use Rattle.std.specs.Prelude.{◌≡◌};
 
 use cj_expr::Predicate;
 use cj_model::Value;

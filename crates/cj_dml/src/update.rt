@@ -10,7 +10,6 @@ ghost use Rattle.cj_expr.specs.Shapes.{formula};
 ghost use Rattle.cj_dml.specs.Assignments.{KeepsKey, assignment_by_place, assignments, values_or_none};
 ghost use Rattle.cj_dml.specs.Changes.{MakesChange};
 ghost use Rattle.cj_dml.specs.ColumnEdits.{CountsIntegers, GetIntegers, SetsInPlace};
-ghost use Rattle.cj_rowstore.specs.RowEntries as entries;
 
 use crate::column_edit::ColumnEdit;
 use crate::names::is_distinct;

@@ -1,6 +1,6 @@
 //! Expressions with columns by index.
 
-ghost use Rattle.std.specs.Prelude.{◌≡◌, pos, IfOk};
+ghost use Rattle.std.specs.Prelude.{◌≡◌, pos};
 ghost use Rattle.cj_model.specs.Database.Evaluation.{value_of};
 ghost use Rattle.cj_expr.specs.Shapes.{formula};
 ghost use Rattle.cj_expr.specs.Results.{IsValueOf, integer_within};

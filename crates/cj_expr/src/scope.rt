@@ -1,6 +1,6 @@
 //! The columns that a statement may name.
 
-ghost use Rattle.std.specs.Prelude.{◌≡◌, ◌++◌, List, map, IfOk, OnOk};
+ghost use Rattle.std.specs.Prelude.{◌≡◌, ◌++◌, map, IfOk, OnOk};
 ghost use Rattle.std.specs.Map.Iter.{deref};
 ghost use Rattle.cj_model.specs.Database.Scopes.{column_kind_at, place_of, scope_of};
 ghost use Rattle.cj_model.specs.Database.Scopes as scopes;

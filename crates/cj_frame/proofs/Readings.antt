@@ -1,10 +1,10 @@
 -- Bytes have a reading.
-use Rattle.std.proofs.Common.{◌≡◌, ℕ, zero, suc, ◌^◌, ◌<◌, ◌≤◌, List, [], ◌∷◌, ◌++◌, length, get_or, drop, All, Result, Option, Ok, Err, inl, inr, ⊎_elim, refl, ap, ◌∙◌, sym, subst, arith, append_assoc, length-append}
+use Rattle.std.proofs.Common.{◌≡◌, ℕ, zero, suc, ◌^◌, ◌<◌, ◌≤◌, List, [], ◌∷◌, ◌++◌, length, get_or, drop, All, Ok, Err, ⊎_elim, refl, ap, ◌∙◌, sym, subst, arith, append_assoc, length-append}
 use Rattle.std.proofs.Math.Seq.{drop-append_seam}
 use Rattle.std.proofs.lemmas.Bool.{cases_lt}
 use Rattle.std.proofs.lemmas.List.{get_or_past}
-use Rattle.cj_frame.proofs.Common.{flat_map, flat_map-cons, FrameFault, Message}
-use Rattle.cj_model.specs.Wire.Frames.{frame, IsFramed, Frames}
+use Rattle.cj_frame.proofs.Common.{flat_map, flat_map-cons, Message}
+use Rattle.cj_model.specs.Wire.Frames.{frame, IsFramed}
 use Rattle.cj_model.proofs.Fields.{IsBytes, IsBytes_drop}
 use Rattle.cj_frame.specs.Feeding.{BytesHaveReadings, HasReading}
 use Rattle.cj_frame.specs.Proving.Reading.{Decoded, next_at}

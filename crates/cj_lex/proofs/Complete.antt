@@ -13,7 +13,7 @@ use Rattle.cj_model.specs.declared.token.Token.TheVariants as token
 use Rattle.cj_model.specs.Sql.Lexical.{is_white_space, is_word, EachByte, EndsBefore, IsWordSpelling, number_spelled, doubled, keyword, IsSymbol, Spells, EndsToken, BeginsWithToken}
 use Rattle.cj_lex.specs.declared.bytes.Class.TheVariants as class
 use Rattle.cj_lex.specs.Proving.Cut as reader
-use Rattle.cj_lex.specs.Proving.Cut.{Cut, finished, bad, cut, Closed, unclosed, closed, count_of_class, is_in, begins, begins_with, reserved_or_name, word_token, close_string, with_front}
+use Rattle.cj_lex.specs.Proving.Cut.{cut, closed, count_of_class, begins, begins_with, reserved_or_name, word_token, close_string}
 use Rattle.cj_lex.proofs.Classes.{letter_not_blank, digit_not_blank, digit_not_letter, word_not_digit, letter_in_word}
 use Rattle.cj_lex.proofs.Fronts.{prefix_all}
 use Rattle.cj_lex.proofs.Names.{word_is_name}

@@ -9,7 +9,7 @@ use Rattle.cj_lex.specs.declared.error.SqlError.{SqlError}
 use Rattle.cj_lex.specs.declared.error.SqlError.TheVariants.{Syntax, NoMemory}
 use Rattle.cj_lex.specs.Read.{TokensRead}
 use Rattle.cj_lex.specs.Proving.Cut as reader
-use Rattle.cj_lex.specs.Proving.Cut.{finished, bad, cut, Closed, unclosed, closed, count_of_class, begins_with, close_string}
+use Rattle.cj_lex.specs.Proving.Cut.{finished, bad, cut}
 use Rattle.cj_lex.proofs.Sound.{first_sound}
 use Rattle.cj_lex.proofs.Complete.{first_complete}
 use Rattle.cj_lex.proofs.Finished.{finished_sound, finished_complete}

@@ -12,7 +12,7 @@ use Rattle.cj_model.specs.declared.token.Token.TheVariants as token
 use Rattle.cj_model.specs.Sql.Lexical.{is_white_space, is_letter, is_word, EndsBefore, IsWordSpelling, IsDigits, number_spelled, doubled, keyword, Spells, EndsToken, BeginsWithToken}
 use Rattle.cj_lex.specs.declared.bytes.Class.TheVariants as class
 use Rattle.cj_lex.specs.Proving.Cut as reader
-use Rattle.cj_lex.specs.Proving.Cut.{Cut, finished, bad, cut, Closed, unclosed, closed, count_of_class, is_in, begins, begins_with, reserved_or_name, word_token, close_string, with_front}
+use Rattle.cj_lex.specs.Proving.Cut.{cut, Closed, unclosed, closed, count_of_class, begins, begins_with, reserved_or_name, word_token, close_string, with_front}
 use Rattle.cj_lex.proofs.Choices.{chosen, both, equal}
 use Rattle.cj_lex.proofs.Classes.{letter_in_word}
 use Rattle.cj_lex.proofs.Fronts.{front, past, front_each, past_ends, front_first}

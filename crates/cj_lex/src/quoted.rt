@@ -1,6 +1,6 @@
 //! Strings.
 
-ghost use Rattle.std.specs.Prelude.{◌≡◌, IfOk, false};
+ghost use Rattle.std.specs.Prelude.{IfOk, false};
 ghost use Rattle.cj_lex.specs.Proving.Cut as cut;
 ghost use Rattle.cj_lex.specs.Proving.Cut.{AnswersClosed, CutsOne};
 

@@ -1,5 +1,5 @@
 -- What a pass knows of a cell that was asked a query.
-use Rattle.std.proofs.Common.{◌≡◌, ℕ, ◌+◌, ◌<◌, ◌≤◌, ◌==◌, Bool, true, cond, List, ◌∷◌, length, Option, None, Some, IfSome, IfOk, Result, Ok, Err, refl, ap, sym, ◌∙◌, subst, arith, eq-eqb}
+use Rattle.std.proofs.Common.{◌≡◌, ℕ, ◌+◌, ◌<◌, ◌≤◌, ◌==◌, Bool, true, cond, List, ◌∷◌, length, Option, Some, IfSome, IfOk, Result, Ok, Err, refl, ap, sym, ◌∙◌, subst, arith, eq-eqb}
 use mathlib.Core.List.{IsPrefix}
 use Rattle.std.proofs.lemmas.List.Sums.{sum_by-cons}
 use Rattle.cj_model.specs.declared.database.Slot.{Slot}
@@ -22,7 +22,7 @@ use Rattle.cj_replica.specs.declared.replica.CellReadError.TheVariants as errors
 use Rattle.cj_replica.specs.Cells.{ReadsAnswer, TakesSnapshot}
 use Rattle.cj_replica.specs.Logged.{IsLoggedAnswer, IsLoggedSnapshot}
 use Rattle.cj_replica.specs.Seated.{IsSeated, SeatedCell, view_after_read}
-use Rattle.cj_locked_cell.specs.Answering.{reading_of, GivesAnswerAt, GivesReadingAt, GivesSnapshotAt, IsReadAnswer, IsReadAt, IsReading}
+use Rattle.cj_locked_cell.specs.Answering.{reading_of, GivesAnswerAt, GivesSnapshotAt, IsReadAnswer, IsReadAt, IsReading}
 
 -- a cell x that is asked, and is y then; and a pass w that has heard of it
 module _ {A : Type 0} (seated : Bool) (x y : SeatedCell) (r : Result (A × ℕ) CellReadError) (v w : SeatView) (sits : IsSeated seated x) (at : IfOk r (λ z. x.state.position ≡ Some z.1))

@@ -3,7 +3,7 @@ use Rattle.std.proofs.Common.{◌≡◌, ◌∙◌, refl, sym, ap, subst, ℕ, �
 use Rattle.cj_macro.proofs.Common.{All, All-append, All-nil, And, Condition, condition_bounds, draws_behind, draws_for, IsConstant, IsDrawable, Not, Or, rewritten_condition, rewritten_where, term_bounds, TermFits, Test, where_bounds}
 use Rattle.cj_model.specs.declared.value.Value.TheVariants as value
 use Rattle.cj_model.specs.Sql.ConditionForms as c
-use Rattle.cj_model.specs.Sql.ConditionForms.{CondForm, OrsForm, ConjForm, AndsForm, PrimForm, cond_meant, comparisons, CondNests, OrsNest, ConjNests, AndsNest, PrimNests, CondFits}
+use Rattle.cj_model.specs.Sql.ConditionForms.{CondForm, OrsForm, ConjForm, AndsForm, PrimForm, cond_meant, comparisons, CondNests, OrsNest, ConjNests, AndsNest, PrimNests}
 use Rattle.cj_model.specs.Sql.Grammar.{where_meant, WhereFits}
 use Rattle.cj_model.proofs.Spellable.{FineCond, FineWhere}
 use Rattle.cj_print.proofs.Forms.{term_form, or_end, and_end, or_also, and_also, Forms, of_prim, of_conj, of_cond, forms, where_form}

@@ -15,7 +15,7 @@ use Rattle.cj_cluster.specs.History.Answering.{CanServe}
 use Rattle.cj_cluster.proofs.Pushed.{prefix_self}
 use Rattle.cj_cluster.proofs.Sessions.{session_at-is}
 use Rattle.cj_cluster.proofs.Standing.{open_above, still_tried}
-use Rattle.cj_cluster.specs.Moves.Moves.{MoveResult, is_open, open_tx, position_or_zero, IsServingMask, ReadIsAnswered, ReadCameTooEarly, HasOtherRead, HasNoOtherRead, AttemptsRead, AttemptsReadOrWaits, with_read, answered_at, was_answered, still_reading, tried_of, tried_with}
+use Rattle.cj_cluster.specs.Moves.Moves.{MoveResult, is_open, open_tx, position_or_zero, IsServingMask, ReadIsAnswered, ReadCameTooEarly, HasNoOtherRead, AttemptsRead, AttemptsReadOrWaits, with_read, answered_at, was_answered, still_reading, tried_of, tried_with}
 use Rattle.cj_model.proofs.Masks.{has-zero, some_bit}
 use Rattle.cj_model.specs.Database.Outcomes.{IsAsked}
 use Rattle.cj_state.specs.declared.cells.AskError.{AskError}

@@ -1,6 +1,6 @@
 //! The move `Abort`: the administrator ends an orphan.
 
-ghost use Rattle.std.specs.Prelude.{◌≡◌, ◌<◌, ◌≤◌, length, IsErrOf, None, Ok};
+ghost use Rattle.std.specs.Prelude.{◌≡◌, ◌<◌, length, IsErrOf, None, Ok};
 ghost use Rattle.cj_cluster.specs.Moves.Moves as moves;
 ghost use Rattle.cj_cluster.specs.Moves.Moves.{AbortsOrphan, not_now};
 ghost use Rattle.cj_state.specs.Worlds.{CacheFollowsLog, IsSameWorldButLog};

@@ -1,6 +1,6 @@
 //! Any move, by its kind.
 
-ghost use Rattle.std.specs.Prelude.{◌≡◌, ◌<◌, ◌≤◌, IsErrOf, Some, None, Ok};
+ghost use Rattle.std.specs.Prelude.{◌≡◌, ◌<◌, IsErrOf, Some, None, Ok};
 ghost use Rattle.cj_cluster.specs.Moves.Moves as moves;
 ghost use Rattle.cj_cluster.specs.Moves.Moves.{MovesTo};
 ghost use Rattle.cj_state.specs.Worlds.{IsSameWorldButLog};

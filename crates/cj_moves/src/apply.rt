@@ -1,6 +1,6 @@
 //! The move `Apply`: an enabled backend carries out the open entry.
 
-ghost use Rattle.std.specs.Prelude.{◌≡◌, ◌<◌, ◌≤◌, length, Some, None, Ok};
+ghost use Rattle.std.specs.Prelude.{◌≡◌, ◌<◌, length, Some, None, Ok};
 ghost use Rattle.cj_cluster.specs.Moves.Moves as moves;
 ghost use Rattle.cj_cluster.specs.Moves.Moves.{Applies, not_now};
 ghost use Rattle.cj_state.specs.ArmedCells.{armings_of};

@@ -1,6 +1,6 @@
 //! The move `Arm`: the next call of a backend is to fail.
 
-ghost use Rattle.std.specs.Prelude.{◌≡◌, ◌<◌, ◌≤◌, Ok};
+ghost use Rattle.std.specs.Prelude.{◌≡◌, ◌<◌, Ok};
 ghost use Rattle.cj_cluster.specs.Moves.Moves as moves;
 ghost use Rattle.cj_cluster.specs.Moves.Moves.{Arms};
 ghost use Rattle.cj_replica.specs.Cells.{CellState};

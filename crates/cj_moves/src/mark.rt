@@ -1,6 +1,6 @@
 //! The move `Mark`: a checkpoint gets a name.
 
-ghost use Rattle.std.specs.Prelude.{true, ◌≡◌, ◌<◌, ◌≤◌, length, IsErrOf, None, Ok};
+ghost use Rattle.std.specs.Prelude.{true, ◌≡◌, ◌<◌, length, IsErrOf, None, Ok};
 ghost use Rattle.cj_model.specs.Sql.Names.{is_name};
 ghost use Rattle.cj_cluster.specs.Moves.Moves as moves;
 ghost use Rattle.cj_cluster.specs.Moves.Moves.{Marks, not_now};

@@ -1,6 +1,6 @@
 //! The move `Replay`: a backend that isn't enabled carries out the next entry of the log.
 
-ghost use Rattle.std.specs.Prelude.{◌≡◌, ◌<◌, ◌≤◌, length, Some, None, Ok};
+ghost use Rattle.std.specs.Prelude.{◌≡◌, ◌<◌, length, Some, None, Ok};
 ghost use Rattle.cj_cluster.specs.Moves.Moves as moves;
 ghost use Rattle.cj_cluster.specs.Moves.Moves.{Replays, not_now};
 ghost use Rattle.cj_state.specs.ArmedCells.{armings_of};

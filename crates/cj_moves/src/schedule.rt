@@ -1,6 +1,6 @@
 //! The move `Schedule`: a session's request becomes an entry.
 
-ghost use Rattle.std.specs.Prelude.{◌≡◌, ◌<◌, ◌≤◌, length, IsErrOf, Some, None, Ok};
+ghost use Rattle.std.specs.Prelude.{◌≡◌, ◌<◌, length, IsErrOf, Some, None, Ok};
 ghost use Rattle.cj_model.specs.Sql.PlainRequests as plain;
 ghost use Rattle.cj_model.specs.Sql.WrittenRequests.{IsWritten};
 ghost use Rattle.cj_model.specs.declared.request.Request.{Request};

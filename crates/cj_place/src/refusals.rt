@@ -1,9 +1,9 @@
 //! Which placements are refused, and why.
 
-ghost use Rattle.std.specs.Prelude.{◌≡◌, [], find, length, map, not, option_copied, option_map, true, IfOk};
+ghost use Rattle.std.specs.Prelude.{◌≡◌, [], find, map, not, option_copied, option_map, IfOk};
 ghost use Rattle.std.specs.List.{list_all, list_any};
 ghost use Rattle.std.specs.Str.{bytes_eq};
-ghost use Rattle.cj_place.specs.Refusals.{bad_level, has_count, is_among, refusal_of_placement, some_row};
+ghost use Rattle.cj_place.specs.Refusals.{bad_level, is_among, refusal_of_placement, some_row};
 ghost use Rattle.cj_place.specs.Refusals as refusals;
 
 use crate::error::PlaceError;

@@ -6,7 +6,7 @@ use Rattle.cj_model.specs.declared.request.Request.TheVariants as request
 use Rattle.cj_model.specs.Sql.TermForms.{EachFits, SomeFit, const_meant, ConstFits}
 use Rattle.cj_model.specs.Sql.ConditionForms.{CondForm}
 use Rattle.cj_model.specs.Sql.Grammar as g
-use Rattle.cj_model.specs.Sql.Grammar.{SetForm, Direction, KeyForm, SelectForm, Statement, set_meant, where_meant, descends, key_meant, select_meant, statement_meant, SetFits, WhereFits, SelectFits, StatementFits}
+use Rattle.cj_model.specs.Sql.Grammar.{SetForm, Direction, KeyForm, SelectForm, Statement, set_meant, where_meant, descends, key_meant, select_meant, statement_meant, SetFits, WhereFits, StatementFits}
 use Rattle.cj_print.proofs.Forms.{const_form, where_form, set_form, direction_form, key_form, select_form, form}
 use Rattle.cj_print.proofs.FewestParentheses.{const_means, const_least, expr_means, expr_least, cond_means, cond_fits}
 

@@ -7,7 +7,7 @@ use Rattle.cj_model.specs.declared.database.Slot.{Slot}
 use Rattle.cj_mem.specs.MemoryBackends.{MemoryState, fresh_state, never_armed}
 use Rattle.cj_beside.specs.Besides.{told_beside}
 use Rattle.cj_beside.proofs.Wrapping.{of_wrapped}
-use Rattle.cj_core.specs.Starts.{BackendState, HaveBegunNone, state_by}
+use Rattle.cj_core.specs.Starts.{HaveBegunNone, state_by}
 use Rattle.cj_top.proofs.NewBackends.{map_replicate}
 use Rattle.cj_top.specs.Configured.{new_backend}
 

@@ -1,7 +1,7 @@
 -- The command `serve`: a console beside sessions over the connections of a port.
-use Rattle.std.specs.Prelude.{◌≡◌, ◌≢◌, ◌⊎◌, ◌↔◌, ℕ, ◌+◌, Bool, true, ◌&&◌, List, Result, Ok, Err}
+use Rattle.std.specs.Prelude.{◌≡◌, ◌≢◌, ◌⊎◌, ◌↔◌, ℕ, ◌+◌, Bool, true, ◌&&◌, List, Err}
 use Rattle.std.specs.declared.option.Option.{Option}
-use Rattle.std.specs.declared.option.Option.TheVariants.{None, Some}
+use Rattle.std.specs.declared.option.Option.TheVariants.{Some}
 use Rattle.cj_args.specs.Words.{AsksToServeAt}
 use Rattle.cj_outside.specs.Causes.{CountsFault}
 use Rattle.cj_conf.specs.declared.conf.Conf.{Conf}

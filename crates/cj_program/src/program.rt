@@ -1,6 +1,6 @@
 //! The top call.
 
-ghost use Rattle.std.specs.Prelude.{◌≡◌, ◌≢◌, ◌⊎◌, ℕ, List, Some, true, map, string_bytes};
+ghost use Rattle.std.specs.Prelude.{◌≡◌, ◌≢◌, ◌⊎◌, List, Some, true, map, string_bytes};
 ghost use Rattle.cj_outside.specs.Causes.{CountsFault, next};
 ghost use Rattle.cj_outside.specs.Stores.{Only};
 ghost use Rattle.cj_args.specs.Words.{AsksCommand, Says};

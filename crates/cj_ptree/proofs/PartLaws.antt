@@ -10,7 +10,7 @@ use Rattle.std.proofs.lemmas.Cmp.{tied_itself}
 use Rattle.std.proofs.lemmas.List.{append-nil, append_assoc}
 use Rattle.std.proofs.lemmas.List.Concat.{flat_map-append}
 use Rattle.cj_ptree.specs.Pairs as pair
-use Rattle.cj_ptree.specs.Pairs.{is_filled, retained}
+use Rattle.cj_ptree.specs.Pairs.{is_filled}
 use Rattle.cj_ptree.specs.Parts as part
 use Rattle.cj_ptree.specs.Parts.{all_pairs}
 use Rattle.cj_ptree.proofs.OrderLaws.{each_back, each_both, each_front, each_joint, each_weaker}

@@ -1,6 +1,6 @@
 //! Links to nodes, which trees share, and to other values with several owners.
 
-ghost use Rattle.std.specs.Prelude.{◌≡◌, true, option_copied, IfOk, IfSome, OnOk, OnErr};
+ghost use Rattle.std.specs.Prelude.{◌≡◌, true, IfOk, IfSome, OnOk, OnErr};
 ghost use Rattle.std.specs.Borrow.{sem};
 ghost use Rattle.std.specs.BTreeMap.{is_at};
 ghost use Rattle.std.specs.Map.{lookup, remove_entry};

@@ -2,7 +2,6 @@
 
 ghost use Rattle.std.specs.Prelude.{◌≡◌, false, map, IfOk, OnOk};
 ghost use Rattle.std.specs.Map.Iter.{deref};
-ghost use Rattle.std.specs.Ordering.{is_lt};
 ghost use Rattle.cj_model.specs.Database.Order.{sorts_before, by_sort_key, by_sort_keys, sorted_by};
 ghost use Rattle.cj_model.specs.Database.Queries.{first_row};
 ghost use Rattle.cj_model.specs.Database.Queries as queries;

@@ -1,6 +1,6 @@
 //! A lane with its two ends.
 
-ghost use Rattle.std.specs.Prelude.{◌≡◌, ◌<◌, ℕ, List, [], ◌∷◌, ◌++◌, length, All, IfErr, IfOk, IfSome, MatchOption, OnErr, OnOk};
+ghost use Rattle.std.specs.Prelude.{◌≡◌, ◌<◌, List, [], ◌∷◌, ◌++◌, length, All, IfErr, IfOk, IfSome, MatchOption, OnErr, OnOk};
 ghost use Rattle.cj_queue.specs.Lanes.{capacity_of, posted, taken, IsFull, IsPosterOf, IsTakerOf};
 ghost use Rattle.cj_queue.specs.declared.numbered.Numbered.{Numbered};
 ghost use Rattle.cj_queue.specs.Rule.{IsRising};

@@ -1,6 +1,6 @@
 //! Parts of a store: read as far as it reaches, and written safely.
 
-ghost use Rattle.std.specs.Prelude.{◌≡◌, ◌+◌, ◌^◌, ◌<◌, ◌≤◌, true, false, length, take, drop, IfOk, OnOk, IsErr, IsErrOf};
+ghost use Rattle.std.specs.Prelude.{◌≡◌, ◌+◌, ◌<◌, ◌≤◌, true, false, length, IfOk, OnOk, IsErr, IsErrOf};
 ghost use Rattle.cj_outside.specs.Causes.{CountsFault};
 ghost use Rattle.cj_outside.specs.Streams.{most};
 ghost use Rattle.cj_outside.specs.Stores.{KeepsLimit, Writes, Torn, Stays, Only, Steps};

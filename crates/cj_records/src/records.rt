@@ -1,11 +1,11 @@
 //! A list of byte strings in a store.
 
-ghost use Rattle.std.specs.Prelude.{◌≡◌, ℕ, List, ◌+◌, ◌^◌, ◌<◌, ◌≤◌, [], ◌∷◌, ◌++◌, true, false, length, take, drop, IfOk, OnOk, IsErr, IsErrOf};
+ghost use Rattle.std.specs.Prelude.{◌≡◌, ℕ, List, ◌+◌, ◌^◌, ◌<◌, ◌≤◌, [], ◌∷◌, ◌++◌, true, false, length, IfOk, OnOk, IsErrOf};
 ghost use Rattle.cj_outside.specs.Causes.{CountsFault};
 ghost use Rattle.cj_outside.specs.Streams.{most};
 ghost use Rattle.cj_codec.specs.Fields.{str64};
 ghost use Rattle.cj_records.specs.RecordFiles.{Finds, front_bytes};
-ghost use Rattle.cj_records.specs.Proving.Places.{body_at, end_of};
+ghost use Rattle.cj_records.specs.Proving.Places.{end_of};
 ghost use Rattle.cj_records.specs.Records.{CountsOpenFault, Opens, AppendsRecord, CountsRecords, SameRecords, Reads, IsBeforeOrAfter, KeepsAtLeast, Refuses, LeavesList};
 ghost use Rattle.cj_records.specs.Proving.Keeping.{ReadsPart};
 ghost use Rattle.cj_outside.specs.Stores.{Only, Stays, Steps, LeavesOnly};

@@ -1,8 +1,7 @@
 //! The history of the items so far.
 
-ghost use Rattle.std.specs.Prelude.{◌≡◌, ◌↔◌, ◌⊎◌, ℕ, ◌+◌, ◌*◌, ◌^◌, ◌<◌, ◌≤◌, List, [], ◌∷◌, ◌++◌, length, slice_get, option_copied, IfOk, OnOk, IsErrOf, IsTrue};
+ghost use Rattle.std.specs.Prelude.{◌≡◌, ◌↔◌, ℕ, ◌+◌, ◌*◌, ◌^◌, ◌<◌, [], ◌∷◌, ◌++◌, length, slice_get, option_copied, IfOk, OnOk, IsErrOf, IsTrue};
 ghost use Rattle.std.specs.Option.{option_and_then};
-ghost use Rattle.cj_model.specs.declared.limits.TheConstants.{USER_LIMIT};
 ghost use Rattle.cj_cluster.specs.declared.event.Event.{Event};
 ghost use Rattle.cj_cluster.specs.declared.event.Event.TheVariants.{Sched, Ended, Marker};
 ghost use Rattle.cj_cluster.specs.History.Histories.{log, scheduled_entry};

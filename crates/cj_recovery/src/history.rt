@@ -1,6 +1,6 @@
 //! The history that the items of a log open with.
 
-ghost use Rattle.std.specs.Prelude.{◌≡◌, ℕ, ◌^◌, ◌<◌, length, IfOk, IsErrOf};
+ghost use Rattle.std.specs.Prelude.{ℕ, ◌^◌, ◌<◌, length, IfOk, IsErrOf};
 ghost use Rattle.std.specs.List.{AllByRecursion};
 ghost use Rattle.cj_log.specs.Items.{IsItem};
 ghost use Rattle.cj_recovery.specs.Openings.{OpensTo, HasBadEntry};

@@ -1,5 +1,5 @@
 -- A backend comes back: what the calls at the cluster say of it, from what a pass had seen before them.
-use Rattle.std.proofs.Common.{◌≡◌, ℕ, ◌≤◌, Bool, List, length, Option, Result, Ok, Err, IfErr, sym, subst, arith}
+use Rattle.std.proofs.Common.{ℕ, ◌≤◌, Bool, List, length, Option, Result, Ok, Err, IfErr, sym, subst, arith}
 use mathlib.Core.List.{IsPrefix}
 use Rattle.cj_board.specs.declared.view.SeatView.{SeatView}
 use Rattle.cj_cluster.specs.declared.event.Event.{Event}

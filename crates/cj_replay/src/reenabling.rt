@@ -1,6 +1,6 @@
 //! A backend comes back.
 
-ghost use Rattle.std.specs.Prelude.{◌≡◌, ◌<◌, length, IfErr, IfSome, Option, Some};
+ghost use Rattle.std.specs.Prelude.{◌<◌, length, IfErr, IfSome, Option, Some};
 ghost use Rattle.cj_cluster.specs.History.Legality.{IsLegal};
 ghost use Rattle.cj_board.specs.Seats.{front, pass_view};
 ghost use Rattle.cj_pass.specs.Passes.{HasNotedMore};

@@ -12,7 +12,7 @@ ghost use Rattle.cj_cluster.specs.History.Legality.{IsLegal};
 ghost use Rattle.cj_board.specs.declared.view.Role.TheVariants as role;
 ghost use Rattle.cj_board.specs.Points.{max_word};
 ghost use Rattle.cj_board.specs.Seats.{board_id, cell_board, cell_view, front, pass_board, pass_view, position, seen};
-ghost use Rattle.cj_board.specs.Steps.{after_join, after_split, word_of_position};
+ghost use Rattle.cj_board.specs.Steps.{after_join, after_split};
 ghost use Rattle.cj_board.specs.Views.{new_view, pass_of, pass_without_tokens, role_position};
 ghost use Rattle.cj_backend.specs.Backends as backends;
 ghost use Rattle.cj_replica.specs.Seated.{view_after_call, view_after_entry, view_after_load, view_after_read};

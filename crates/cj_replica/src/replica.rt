@@ -1,13 +1,13 @@
 //! A backend with its place among the backends and its position of the log.
 
-ghost use Rattle.std.specs.Prelude.{◌≡◌, ◌⊎◌, ◌↔◌, ◌<◌, ◌≤◌, ◌==◌, ℕ, [], not, true, false, filter, Some, None, Ok, Err, IfOk, IfSome, OnOk, OnErr, is_err};
+ghost use Rattle.std.specs.Prelude.{◌≡◌, ◌⊎◌, ◌<◌, ◌==◌, [], not, true, filter, Some, None, Ok, Err, IfOk, OnOk, is_err};
 ghost use Rattle.cj_model.specs.declared.request.Act.TheVariants as act;
 ghost use Rattle.cj_model.specs.declared.request.Request.TheVariants as request;
 ghost use Rattle.cj_model.specs.Cluster.Placements as placements;
 ghost use Rattle.cj_model.specs.Database.Storable.{IsStorable};
 ghost use Rattle.cj_model.specs.Sql.WrittenRequests.{IsWritten};
 ghost use Rattle.cj_model.specs.Sql.PlainRequests.{request_of};
-ghost use Rattle.cj_model.specs.Database.Outcomes.{IsOutcome, IsAsked};
+ghost use Rattle.cj_model.specs.Database.Outcomes.{IsOutcome};
 ghost use Rattle.cj_cluster.specs.History.Transactions.{has_begun, begun_after};
 ghost use Rattle.cj_replica.specs.Calls.{CanCarryOut, LogsInAt, SaysCarried, TellsAfter, TellsCarried, begun_at_write};
 ghost use Rattle.cj_replica.specs.Cells.{HasCellCause, SpendsArmingIf};

@@ -1,19 +1,16 @@
 -- A dump that is begun, finished and read.
-use Rattle.std.proofs.Common.{◌≡◌, ◌≢◌, ℕ, ◌<◌, ◌≤◌, Bool, true, false, List, [], ◌∷◌, ◌++◌, length, Option, Some, Result, Ok, Err, refl, ap, sym, ◌∙◌, subst, arith, append_assoc}
+use Rattle.std.proofs.Common.{◌≡◌, ℕ, Bool, true, false, List, [], ◌∷◌, ◌++◌, length, Option, Some, Result, Ok, Err, refl, ap, sym, ◌∙◌, subst, arith, append_assoc}
 use Rattle.std.proofs.lemmas.Bool.{both_ways}
 use mathlib.Core.List.{IsPrefix}
 use Rattle.cj_model.specs.declared.database.Slot.{Slot}
-use Rattle.cj_model.specs.declared.limits.TheConstants.{BACKEND_LIMIT}
 use Rattle.cj_model.specs.Cluster.Placements.{Placement, part}
 use Rattle.cj_cluster.specs.declared.event.Event.{Event}
 use Rattle.cj_cluster.specs.declared.event.Event.TheVariants.{Disabled, Marker}
-use Rattle.cj_cluster.specs.History.Histories.{database_after, events_left, is_enabled, log}
+use Rattle.cj_cluster.specs.History.Histories.{database_after, is_enabled, log}
 use Rattle.cj_cluster.proofs.Pushed.{at-prefix, enabled-push, log-prefix, prefix_self, prefix_trans}
 use Rattle.cj_place.specs.Layouts.{Layout}
 use Rattle.cj_board.specs.declared.view.SeatView.{SeatView}
 use Rattle.cj_book.specs.BookLogs.{BookLogState}
-use Rattle.cj_book.specs.declared.error.BookError.{BookError}
-use Rattle.cj_book.specs.declared.error.BookError.TheVariants as book_errors
 use Rattle.cj_dump.specs.declared.dump.Dump.{Dump}
 use Rattle.cj_log.specs.declared.item.LogItem.{LogItem}
 use Rattle.cj_pass.specs.Passes.{HasNotedMore}
@@ -22,7 +19,7 @@ use Rattle.cj_locked_cell.proofs.Asking.{fault_between}
 use Rattle.cj_locked.specs.Auditing.{IsHeldOver}
 use Rattle.cj_locked.specs.Changes.{BringsAt}
 use Rattle.cj_locked.specs.Marking.{BeginsMarkSince, MarksSince}
-use Rattle.cj_return_path.specs.Dumping.{BeginsDump, CanSpare, DumpsSince, MarksDump, ReadsDump, RefusesDump}
+use Rattle.cj_return_path.specs.Dumping.{BeginsDump, CanSpare, DumpsSince, MarksDump, ReadsDump}
 use Rattle.cj_return_path.specs.declared.restore.RestoreError.{RestoreError}
 use Rattle.cj_return_path.specs.declared.restore.RestoreError.TheVariants as errors
 

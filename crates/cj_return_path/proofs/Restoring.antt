@@ -1,6 +1,5 @@
 -- How a backend comes back: what its load, the replay and the enabling come to.
-use Rattle.std.proofs.Common.{◌≡◌, ◌⊎◌, inl, inr, ⊎_elim, ℕ, ◌+◌, ◌<◌, ◌≤◌, ◌==◌, ◌&&◌, not, Bool, true, false, List, length, Contains, Option, None, Some, Result, Ok, Err, get_or, slice_get, ap, sym, ◌∙◌, subst, arith, eqb-true}
-use Rattle.std.proofs.lemmas.Bool.{and_parts, not-true}
+use Rattle.std.proofs.Common.{◌≡◌, ◌⊎◌, inl, inr, ⊎_elim, ℕ, ◌+◌, ◌<◌, ◌≤◌, not, Bool, true, List, length, Contains, Option, None, Some, Result, Ok, Err, get_or, slice_get, sym, ◌∙◌, subst, arith}
 use Rattle.std.proofs.lemmas.Option.{slice_get_cases, slice_get_within}
 use mathlib.Core.List.{IsPrefix}
 use Rattle.cj_model.specs.declared.request.Entry.{Entry}
@@ -9,14 +8,12 @@ use Rattle.cj_model.specs.Cluster.Placements.{part}
 use Rattle.cj_model.specs.Database.Storable.{IsStorable}
 use Rattle.cj_model.proofs.PartLaws.{part_is_storable}
 use Rattle.cj_cluster.specs.declared.event.Event.{Event}
-use Rattle.cj_cluster.specs.declared.event.Event.TheVariants.{Enabled}
 use Rattle.cj_cluster.specs.declared.moves.Did.{Did}
 use Rattle.cj_cluster.specs.declared.moves.Did.TheVariants as did
-use Rattle.cj_cluster.specs.History.Histories.{database_after, events_left, is_enabled, log}
+use Rattle.cj_cluster.specs.History.Histories.{database_after, log}
 use Rattle.cj_cluster.proofs.Pushed.{prefix_trans}
 use Rattle.cj_place.specs.Layouts.{Layout, placement_of}
 use Rattle.cj_board.specs.declared.view.SeatView.{SeatView}
-use Rattle.cj_book.specs.declared.error.BookError.TheVariants as book_errors
 use Rattle.cj_dump.specs.declared.dump.Dump.{Dump}
 use Rattle.cj_dump.specs.Coverage.{cut, lacks}
 use Rattle.cj_dump.proofs.Cuts.{cut_is_part}
@@ -25,7 +22,6 @@ use Rattle.cj_pass.proofs.Passes.{noted_self}
 use Rattle.cj_locked_cell.specs.Taking.{NotesReport}
 use Rattle.cj_locked_cell.proofs.Asking.{fault_between}
 use Rattle.cj_locked_cell.proofs.Loading.{part_later, within_later}
-use Rattle.cj_locked.specs.Changes.{BringsSince}
 use Rattle.cj_return_path.specs.Restoring.{EnablesSince, IsRightDump, ReplaysLog, ReplaysTo, TakesNext}
 use Rattle.cj_return_path.specs.declared.restore.RestoreError.{RestoreError}
 use Rattle.cj_return_path.specs.declared.restore.RestoreError.TheVariants as errors

@@ -2,7 +2,7 @@
 
 ghost use Rattle.std.specs.Prelude.{◌≡◌, ◌≤◌, ◌<◌, ◌↔◌, length, IfOk, IsTrue, is_some};
 ghost use Rattle.cj_model.specs.Sql.PlainRequests.{act_of};
-ghost use Rattle.cj_cluster.specs.Script.Lines.{IsPlainSql, IsUser, IsWrite};
+ghost use Rattle.cj_cluster.specs.Script.Lines.{IsPlainSql, IsWrite};
 ghost use Rattle.cj_script.specs.Reading.{Arguments, IsQuery, NamesBackendAndDump, OfDump, Queries, ReadsAbort, ReadsClose, ReadsMark, ReadsOpen, SaysWrite};
 ghost use Rattle.cj_words.specs.Words.{FindsValue};
 

@@ -1,6 +1,6 @@
 //! The loop of a script: takes lines from a source, plays them, and writes what they give to a sink.
 
-ghost use Rattle.std.specs.Prelude.{◌≡◌, ◌≤◌, ◌^◌, ℕ, IfOk, IsErrOf, MatchResult, length};
+ghost use Rattle.std.specs.Prelude.{◌≡◌, ◌≤◌, ◌^◌, ℕ, IsErrOf, length};
 ghost use Rattle.cj_outside.specs.Causes.{CountsFault};
 ghost use Rattle.cj_outside.specs.Streams.{most, WritesAll};
 ghost use Rattle.cj_cluster.specs.Moves.Runs.{CanCountRequests};

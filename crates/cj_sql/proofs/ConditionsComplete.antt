@@ -1,6 +1,6 @@
 -- A condition of the grammar is read.
 use Rattle.std.proofs.Common.{◌≡◌, refl, ℕ, zero, suc, ◌+◌, ◌-◌, ◌<◌, ◌≤◌, nat_lt, true, false, List, ◌∷◌, arith}
-use Rattle.cj_sql.proofs.Common.{AndsForm, AndsNest, Cmp, CondForm, CondNests, ConjForm, ConjNests, Connective, OrsForm, OrsNest, PrimForm, PrimNests, Token, ands_meant, ands_tokens, cmp_token, comparisons, cond_meant, cond_tokens, conj_meant, conj_tokens, nat_tests, ors_meant, ors_tokens, prim_meant, prim_tokens}
+use Rattle.cj_sql.proofs.Common.{AndsForm, AndsNest, Cmp, CondNests, ConjNests, Connective, OrsForm, OrsNest, PrimNests, Token, ands_meant, ands_tokens, cmp_token, comparisons, cond_meant, cond_tokens, conj_meant, conj_tokens, nat_tests, ors_meant, ors_tokens, prim_meant, prim_tokens}
 use Rattle.cj_model.specs.declared.token.Token.TheVariants as token
 use Rattle.cj_model.specs.declared.token.Keyword.TheVariants as word
 use Rattle.cj_model.specs.declared.token.Symbol.TheVariants as symbol

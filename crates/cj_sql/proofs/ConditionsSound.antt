@@ -1,6 +1,6 @@
 -- What the reader of conditions reads is a condition of the grammar.
 use Rattle.std.proofs.Common.{◌≡◌, ap, ℕ, zero, suc, ◌+◌, ◌-◌, ◌<◌, nat_lt, List, ◌∷◌, drop, Option, None, Some, arith}
-use Rattle.cj_sql.proofs.Common.{AndsForm, AndsNest, Cmp, CondForm, CondNests, ConjForm, ConjNests, Connective, OrsForm, OrsNest, PrimForm, PrimNests, Symbol, Token, ands_meant, ands_tokens, cmp_token, comparisons, cond_meant, cond_tokens, conj_meant, conj_tokens, nat_tests, ors_meant, ors_tokens, prim_meant, prim_tokens}
+use Rattle.cj_sql.proofs.Common.{AndsNest, Cmp, CondNests, ConjNests, Connective, OrsNest, PrimNests, Symbol, Token, ands_meant, ands_tokens, cmp_token, comparisons, cond_meant, cond_tokens, conj_meant, conj_tokens, nat_tests, ors_meant, ors_tokens, prim_meant, prim_tokens}
 use Rattle.cj_model.specs.declared.token.Token.TheVariants as token
 use Rattle.cj_model.specs.declared.token.Keyword.TheVariants as word
 use Rattle.cj_model.specs.declared.token.Symbol.TheVariants as symbol

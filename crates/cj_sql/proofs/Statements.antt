@@ -5,7 +5,7 @@ use Rattle.cj_model.specs.declared.token.Token.TheVariants as token
 use Rattle.cj_model.specs.declared.token.Keyword.TheVariants as word
 use Rattle.cj_model.specs.declared.token.Symbol.TheVariants as symbol
 use Rattle.cj_model.specs.Sql.TermForms.{commas}
-use Rattle.cj_model.specs.Sql.Grammar.{SetForm, Statement, tuple_tokens, where_tokens, statement_tokens, statement_meant, StatementFits, end_tokens, TokensReadAs}
+use Rattle.cj_model.specs.Sql.Grammar.{Statement, tuple_tokens, where_tokens, statement_tokens, statement_meant, StatementFits, end_tokens, TokensReadAs}
 use Rattle.cj_model.specs.Sql.Grammar as grammar
 use Rattle.cj_sql.specs.Proving.Reader.{read, same_word, same_symbol, sees_word, sees_symbol, sees_end, expect_name, expect_word, expect_symbol}
 use Rattle.cj_sql.specs.Proving.SelectReader.{select}

@@ -1,5 +1,5 @@
 -- Each change of sessions and entries keeps what a world keeps.
-use Rattle.std.proofs.Common.{◌≡◌, ℕ, ◌+◌, ◌==◌, ◌<◌, ◌≤◌, not, Bool, true, false, List, [], ◌∷◌, ◌++◌, filter, length, map, get_or, Option, None, refl, ap, sym, ◌∙◌, subst, arith, length-append}
+use Rattle.std.proofs.Common.{◌≡◌, ℕ, ◌+◌, ◌==◌, ◌<◌, ◌≤◌, not, Bool, true, false, List, [], ◌∷◌, ◌++◌, filter, length, map, get_or, None, refl, ap, sym, ◌∙◌, subst, arith, length-append}
 use Rattle.std.proofs.lemmas.Bool.{or_parts, leb-false}
 use Rattle.cj_state.proofs.Common.{AreBetween, CellState, core_of, CoreInvariant, Dump, Ended, ended_count, Entry, open_entry_of, Event, events_left, HasServer, HaveFailed, is_entry_of, is_free, IsCell, IsFitEntry, Kept, Layout, log, new_session, no_reports, none_tallied, OpenSession, placement_of, Register, request_of, Sched, Select, session_at, taken_of, Tally, with_session, world_of}
 use Rattle.cj_model.specs.declared.limits.TheConstants.{SESSION_LIMIT, SESSION_NUMBER_LIMIT, USER_LIMIT}

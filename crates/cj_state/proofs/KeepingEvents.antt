@@ -1,7 +1,7 @@
 -- What a world keeps where an event comes that schedules nothing and ends nothing.
 use Rattle.std.proofs.Common.{◌≡◌, ℕ, ◌<◌, ◌≤◌, Bool, true, false, List, [], ◌∷◌, ◌++◌, length, map, Option, None, Some, refl, ap, sym, ◌∙◌, subst}
 use Rattle.cj_state.proofs.Common.{AreBetween, both_ways, CellState, core_of, CoreInvariant, Disabled, Dump, Enabled, Entry, Event, is_entry_of, IsTallyOf, Kept, Layout, LogFailed, Marker, OpenSession, placement_of, position_at, ReadFailed, Register, session_at, taken_of, Tally, world_of}
-use Rattle.cj_cluster.specs.History.Histories.{scheduled_entry, is_end_event, log, ended_count, is_free, open_entry_of, is_enabled, has_marker, events_left, outcome_of}
+use Rattle.cj_cluster.specs.History.Histories.{scheduled_entry, is_end_event, log, ended_count, is_free, open_entry_of, is_enabled, has_marker, events_left}
 use Rattle.cj_cluster.proofs.Pushed.{enabled-push, log-same, log_faults-same, done-same, opened-same, opened-free}
 use Rattle.cj_cluster.proofs.Effects.{sessions_are, are_kept, sound_read_failed, sound_log_failed, sound_disabled, sound_enabled, sound_marked, is_there}
 use Rattle.cj_cluster.proofs.Standing.{stand_event, stand_log_failed}

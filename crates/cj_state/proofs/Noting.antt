@@ -1,5 +1,5 @@
 -- What the book's answers say of the core.
-use Rattle.std.proofs.Common.{◌≡◌, ℕ, ◌+◌, ◌<◌, ◌++◌, ◌∷◌, [], List, length, None, Result, Ok, Err, OnOk, OnErr, ⊎_elim, ap, sym, ◌∙◌, subst, refl, arith, length-append, Bool, inl, Option, ◌≤◌}
+use Rattle.std.proofs.Common.{◌≡◌, ℕ, ◌+◌, ◌<◌, ◌++◌, ◌∷◌, [], List, length, None, Result, Ok, Err, OnOk, OnErr, ⊎_elim, ap, sym, ◌∙◌, subst, refl, arith, length-append, Bool, inl, ◌≤◌}
 use Rattle.std.specs.Prelude.{IfOk, IfErr, ◌↔◌, ◌⊎◌}
 use Rattle.cj_state.proofs.Common.{BookError, CellState, core_of, Dump, Entry, Event, events_left, FollowsLog, HadLoggedRoom, HadRoom, HistoryFull, InProgress, KeptFresh, log, log-same, log-sched, LogFailed, LogFault, NoBackend, NoMemory, OpenSession, placement_of, Register, Sched, scheduled_entry, SchedulesAs, session_at, Tally, world_of}
 use Rattle.cj_book.specs.Books.{BookState, with_event, HasNoRoomForOne, CanSchedule, IsFull, IsWant, with_entry}

@@ -5,7 +5,7 @@ use Rattle.std.proofs.lemmas.List.{map-append}
 use Rattle.cj_state.proofs.Common.{CellState, core_of, Dump, Entry, entry_numbered, find_session, new_session, OpenSession, with_session, without}
 use Rattle.cj_cluster.specs.Moves.Moves as moves
 use Rattle.cj_book.specs.Books as books
-use Rattle.cj_book.specs.Books.{BookState, has_session, has_no_number}
+use Rattle.cj_book.specs.Books.{BookState, has_session}
 
 abbrev number : OpenSession → ℕ
 number x = x.number

@@ -1,5 +1,5 @@
 -- What the parts of a world are, and what a stop leaves of its log.
-use Rattle.std.proofs.Common.{◌≡◌, ◌⊎◌, inl, inr, ℕ, zero, ◌+◌, ◌≤◌, Bool, true, false, List, [], ◌∷◌, ◌++◌, None, refl, ap, sym, ◌∙◌, subst, arith, ⊎_elim}
+use Rattle.std.proofs.Common.{◌≡◌, ◌⊎◌, inl, inr, ℕ, ◌+◌, true, false, List, [], ◌∷◌, ◌++◌, None, ap, sym, ◌∙◌, subst, ⊎_elim}
 use Rattle.cj_board.specs.Counting.{session_after}
 use Rattle.cj_book.specs.Books.{IsKeptIn, last_write_failed}
 use Rattle.cj_book.specs.Seated.{SeatedBook, GivesOwnPassesOnly}

@@ -1,6 +1,6 @@
 -- What a world keeps where a backend takes an entry.
-use Rattle.std.proofs.Common.{◌≡◌, ◌≢◌, ℕ, ◌+◌, ◌<◌, ◌≤◌, Bool, true, false, cond, List, [], length, map, get_or, set, slice_get, Option, None, Some, IsSome, Ok, refl, ap, sym, ◌∙◌, subst, arith, ⊎_elim}
-use Rattle.cj_state.proofs.Common.{Act, armings_of, asks_of, Balance, both_ways, CacheState, cases_eq, CellState, ChangesCell, core_of, CoreInvariant, Did, did_fail, Dump, ended_count, Entry, open_entry_of, Event, faults_after, faults_of, get_or-set_other, get_or-set_same, get_or_default, is_enabled, is_free, IsCell, IsOutcome, IsWorld, Kept, Layout, log, login_of, LogView, map-set, OpenSession, Outcome, outcome_of, Placement, placement_of, Register, slice_get_within, stand_rest, takes_part, with_balance, with_cache, with_log, world_of, WorldState}
+use Rattle.std.proofs.Common.{◌≡◌, ◌≢◌, ℕ, ◌+◌, ◌<◌, ◌≤◌, Bool, true, false, cond, List, [], length, map, get_or, set, slice_get, Option, None, Some, Ok, refl, ap, sym, ◌∙◌, subst, arith, ⊎_elim}
+use Rattle.cj_state.proofs.Common.{Act, armings_of, asks_of, Balance, both_ways, CacheState, cases_eq, CellState, ChangesCell, core_of, CoreInvariant, Did, did_fail, Dump, ended_count, Entry, open_entry_of, Event, faults_after, faults_of, get_or-set_other, get_or-set_same, get_or_default, is_enabled, is_free, IsCell, IsWorld, Kept, Layout, log, login_of, LogView, map-set, OpenSession, outcome_of, Placement, placement_of, Register, slice_get_within, stand_rest, takes_part, with_balance, with_cache, with_log, world_of, WorldState}
 use Rattle.cj_model.specs.declared.request.Act.TheVariants as act
 use Rattle.cj_cluster.specs.declared.moves.Did.TheVariants as did
 use Rattle.cj_cluster.specs.declared.moves.Moved.TheVariants as moved

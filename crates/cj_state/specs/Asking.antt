@@ -1,5 +1,5 @@
 -- Which backend a query is asked of, and how many queries each has answered.
-use Rattle.std.specs.Prelude.{◌≡◌, ℕ, List, map, slice_index_or, slice_set, Result, Ok, Err}
+use Rattle.std.specs.Prelude.{ℕ, List, map, slice_index_or, slice_set, Result, Ok, Err}
 use Rattle.std.specs.declared.option.Option.{Option}
 use Rattle.std.specs.declared.option.Option.TheVariants.{None, Some}
 use Rattle.cj_outside.specs.Causes.{next}

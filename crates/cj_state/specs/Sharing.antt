@@ -1,5 +1,5 @@
 -- The parts into which a world is taken apart.
-use Rattle.std.specs.Prelude.{◌≡◌, ℕ, ◌+◌, Bool, None, List, [], map}
+use Rattle.std.specs.Prelude.{◌≡◌, ◌+◌, Bool, None, List, [], map}
 use Rattle.atomic_table.specs.Seated.{TableId}
 use Rattle.cj_auth.specs.Admission.{Register}
 use Rattle.cj_board.specs.Counting.{session_after}

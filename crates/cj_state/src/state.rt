@@ -13,7 +13,7 @@ ghost use Rattle.cj_cluster.specs.History.Answering.{CanServe};
 ghost use Rattle.cj_cluster.specs.Moves.Cores.{find_dump, find_session, hosts_beyond, is_dumped, session_at, position_at};
 ghost use Rattle.cj_model.specs.Cluster.Accounts.{login_of};
 ghost use Rattle.cj_cluster.specs.Moves.Moves as moves;
-ghost use Rattle.cj_cluster.specs.Moves.Moves.{Applies, Replays, LoadsDump, dumped_as, IsServingMask, HasOtherRead, HasNoOtherRead, forbidden_by, next_entry, not_now, with_read, with_request_counted, happened, opened_for, closed_for, scheduled_as, ended_for, answered_at, was_answered, still_reading};
+ghost use Rattle.cj_cluster.specs.Moves.Moves.{Applies, Replays, LoadsDump, dumped_as, IsServingMask, HasOtherRead, HasNoOtherRead, forbidden_by, next_entry, not_now, with_read, with_request_counted, happened, opened_for, closed_for, ended_for, answered_at, was_answered, still_reading};
 ghost use Rattle.std.specs.Bool.{OnTrue};
 ghost use Rattle.cj_auth.specs.Admission.{admits};
 ghost use Rattle.cj_auth.specs.Kept.{IsUserName};

@@ -1,13 +1,13 @@
 -- A script that ended by its input has played as far as that goes.
 use Rattle.std.proofs.Common.{◌≡◌, ◌≢◌, inl, inr, ℕ, ◌+◌, Bool, true, List, [], ◌∷◌, ◌++◌, length, All, Option, Some, None, refl, sym, ap, subst, ◌∙◌, arith, append_assoc, append-nil, length-append}
 use Rattle.std.proofs.lemmas.List.Elements.{All-cons, All-head, All-nil, All-push, All-tail, All-weaker}
-use Rattle.cj_top.proofs.Common.{flat_map, flat_map-append, flat_map-cons, IfSome, le-ltb, lt-ltb, most, ScriptEnd, WorldState}
+use Rattle.cj_top.proofs.Common.{flat_map, flat_map-append, flat_map-cons, le-ltb, lt-ltb, most, ScriptEnd, WorldState}
 use Rattle.cj_outside.specs.Lines.{IsInLine}
 use Rattle.cj_cluster.specs.Script.Lines.{with_line_feed}
 use Rattle.cj_script.specs.Script.{CameTo, IsWrong, Plays, PlaysLine}
 use Rattle.cj_words.specs.LinesInBytes.{IsNextLine, IsShortLine, LieIn}
 use Rattle.cj_script.specs.declared.play.ScriptEnd.TheVariants as end
-use Rattle.cj_top.specs.Completeness.{AreLines, EndsAtLine, IsFirstWrong, IsPlayable, PlaysInput, is_script_end_by_input, is_short_input}
+use Rattle.cj_top.specs.Completeness.{AreLines, IsFirstWrong, IsPlayable, PlaysInput, is_script_end_by_input}
 
 -- ---- one way to be lines
 

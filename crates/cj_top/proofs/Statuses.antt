@@ -1,5 +1,5 @@
 -- What statuses tell, and from which logs commands go on.
-use Rattle.std.proofs.Common.{◌≡◌, ◌≢◌, ◌⊎◌, inl, inr, ℕ, ℤ, ◌<◌, Bool, true, List, [], ◌∷◌, ◌++◌, Option, Result, Ok, Err, refl, sym, ap, subst, ◌∙◌, arith, ⊎_elim}
+use Rattle.std.proofs.Common.{◌≡◌, ◌≢◌, ◌⊎◌, inl, inr, ℕ, ℤ, ◌<◌, Bool, true, List, [], ◌∷◌, ◌++◌, Option, Result, Ok, Err, refl, sym, ap, subst, ◌∙◌, arith}
 use Rattle.std.specs.List.{AllByRecursion}
 use Rattle.cj_top.proofs.Common.{BackendState, Command, Conf, Gen, Log, LogItem, OutError, Pipe, Script, ScriptEnd, SessionEnd, StartError, WorldState}
 use Rattle.cj_cluster.specs.History.Histories.{log}

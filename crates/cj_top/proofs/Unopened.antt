@@ -4,9 +4,8 @@ use Rattle.cj_top.proofs.Common.{IfErr, IfOk, StartError, WorldState}
 use Rattle.cj_book.specs.declared.error.StartError.TheVariants as errors
 use Rattle.cj_book.specs.Found.{start_error_of}
 use Rattle.cj_core.specs.Starts.{CountsFaultOfStart, RefusesBytes}
-use Rattle.cj_log.specs.Logs.{CountsOpenFault, LogState, Opens}
-use Rattle.cj_log.specs.declared.item.LogItem.{LogItem}
-use Rattle.cj_outside.specs.Causes.{CountsFault, next}
+use Rattle.cj_log.specs.Logs.{CountsOpenFault, Opens}
+use Rattle.cj_outside.specs.Causes.{next}
 use Rattle.cj_records.specs.Records.{WritesOnlyNew}
 use Rattle.cj_records.specs.declared.error.RecordsError.{RecordsError}
 use Rattle.cj_records.specs.declared.error.RecordsError.TheVariants as records

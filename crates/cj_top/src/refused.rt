@@ -3,7 +3,7 @@
 ghost use Rattle.std.specs.Prelude.{◌≡◌, ◌≢◌, IfOk, IsErrOf, string_bytes};
 ghost use Rattle.cj_outside.specs.Causes.{CountsFault};
 ghost use Rattle.cj_outside.specs.Streams.{WritesAll};
-ghost use Rattle.cj_top.specs.Logs.{TellsLine, TellsRefusal, bad_entry_line, bad_record_line, status_of_start};
+ghost use Rattle.cj_top.specs.Logs.{TellsRefusal, bad_entry_line, bad_record_line, status_of_start};
 
 use cj_book::StartError;
 use cj_model::NoMemory;

@@ -1,6 +1,6 @@
 //! What the words of a command name outside.
 
-ghost use Rattle.std.specs.Prelude.{◌≡◌, ◌↔◌, ℕ, List, map, string_bytes, IfSome, IsNone};
+ghost use Rattle.std.specs.Prelude.{◌↔◌, ℕ, List, map, string_bytes, IfSome, IsNone};
 ghost use Rattle.cj_args.specs.Words.{AsksToServeAt, NamesConf};
 
 use crate::files::Paths;

@@ -1,5 +1,5 @@
 -- What a report says, and the facts that its type carries, come to the same.
-use Rattle.std.proofs.Common.{◌≡◌, ℕ, ◌-◌, ◌<◌, ◌&&◌, Bool, true, false, true≢false, eqb, leb, Contains, Some, refl, ap, sym, ◌∙◌, subst, arith}
+use Rattle.std.proofs.Common.{◌≡◌, ℕ, ◌-◌, ◌&&◌, Bool, true, false, true≢false, eqb, Contains, Some, refl, ap, sym, ◌∙◌, subst, arith}
 use Rattle.std.specs.Cmp.{IsEquivalence}
 use Rattle.std.specs.Cmp.Derive.{both_true}
 use Rattle.std.specs.List.{list_any}
@@ -13,11 +13,8 @@ use Rattle.cj_model.specs.Cluster.Placements.{Placement}
 use Rattle.cj_model.specs.Database.Outcomes.{IsOutcome, IsChangeCode}
 use Rattle.cj_cluster.specs.declared.moves.Did.{Did}
 use Rattle.cj_cluster.specs.declared.moves.Did.TheVariants as did
-use Rattle.cj_cluster.specs.History.Histories.{log, outcome_of}
-use Rattle.cj_cluster.specs.History.Transactions.{takes_part}
 use Rattle.cj_board.specs.declared.view.SeatView.{SeatView}
 use Rattle.cj_board.specs.Points.{fault_tokens_of}
-use Rattle.cj_tally.specs.Tallies.{IsReportOf, IsRightOutcome}
 use Rattle.cj_locked_cell.specs.Taking.{NotesReport, ReportsEntry}
 use Rattle.cj_workers.specs.Reports.{note_eq, notes_report, TellsEntry}
 

@@ -1,7 +1,6 @@
 //! The way to a backend's worker and back.
 
 ghost use Rattle.std.specs.Prelude.{◌≡◌, Some, false};
-ghost use Rattle.std.specs.Sync.Mutex.{mutex_guard_value};
 ghost use Rattle.cj_workers.specs.Waiting.{lacks};
 
 use crate::report::Report;

@@ -1,5 +1,5 @@
 -- What a world keeps beyond what contracts see of it.
-use Rattle.std.specs.Prelude.{◌≡◌, ℕ, Bool, true, List, [], length, map}
+use Rattle.std.specs.Prelude.{◌≡◌, ℕ, Bool, true, List, length, map}
 use Rattle.std.specs.declared.option.Option.TheVariants.{Some}
 use Rattle.cj_model.specs.declared.request.Entry.{Entry}
 use Rattle.cj_model.specs.Sql.PlainRequests.{request_of}

@@ -1,4 +1,4 @@
-use Rattle.std.proofs.Common.{◌≡◌, ◌∙◌, ◌+◌, ℕ, List, true, [], ◌∷◌, ◌++◌, length, length-append, Contains, IfSome, ap, sym, subst}
+use Rattle.std.proofs.Common.{◌≡◌, ◌∙◌, ◌+◌, ℕ, true, [], ◌∷◌, ◌++◌, length, length-append, Contains, IfSome, ap, sym, subst}
 use Rattle.cj_board.specs.Seats.{front, pass_view}
 use Rattle.cj_cluster.specs.History.Histories.{is_enabled}
 use Rattle.cj_pass.proofs.Passes.{noted_then}

@@ -1,4 +1,4 @@
-use Rattle.std.proofs.Common.{◌≡◌, ℕ, Some}
+use Rattle.std.proofs.Common.{◌≡◌, Some}
 use Rattle.cj_book.specs.declared.error.StartError.{StartError}
 use Rattle.cj_shelf.specs.declared.error.ShelfError.{ShelfError}
 use Rattle.cj_completeness.proofs.Serving.{command_whole, comes_whole, dumps_starved, log_starved}

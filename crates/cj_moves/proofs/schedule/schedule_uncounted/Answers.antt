@@ -1,5 +1,5 @@
 use Rattle.std.proofs.Common.{◌≡◌, None, Option, Err, rules, subst, sym, ◌∙◌}
-use Rattle.cj_moves.proofs.Cited.{Core, Refusal, SchedulesUncounted, can_count, forbidden_by, gives_entry, gives_refusal, answers_log_fault, log_faults_after, open_tx, refusal_causes, refusal_want, schedule_given}
+use Rattle.cj_moves.proofs.Cited.{Refusal, SchedulesUncounted, can_count, forbidden_by, gives_entry, gives_refusal, answers_log_fault, log_faults_after, open_tx, refusal_causes, refusal_want, schedule_given}
 use Rattle.cj_moves.proofs.schedule.schedule_uncounted.Goals as goal
 
 pub returns-in-Ok-schedule_entry-clause-moves : goal.returns-in-Ok-schedule_entry-clause-moves

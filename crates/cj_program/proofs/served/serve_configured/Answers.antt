@@ -1,4 +1,4 @@
-use Rattle.std.proofs.Common.{◌≡◌, ◌∙◌, refl, sym, ap, true, false, ◌&&◌, Bool, List, ℕ, length, map, replicate}
+use Rattle.std.proofs.Common.{◌≡◌, ◌∙◌, sym, ap, true, false, ◌&&◌, Bool, ℕ, length, map, replicate}
 use Rattle.cj_place.specs.Layouts.{Layout}
 use Rattle.cj_top.proofs.ArmedBackends.{by_kinds}
 use Rattle.cj_top.proofs.NewBackends.{any_are_new}

@@ -1,9 +1,8 @@
-use Rattle.std.proofs.Common.{Option, Some, Err, IfErr, IfSome, sym, subst}
+use Rattle.std.proofs.Common.{Option, Some, IfErr, IfSome, sym, subst}
 use Rattle.cj_board.specs.Seats.{front, pass_view}
 use Rattle.cj_dump.specs.declared.dump.Dump.{Dump}
 use Rattle.cj_pass.proofs.Passes.{noted_then}
 use Rattle.cj_return_path.specs.Restoring.{IsRightDump}
-use Rattle.cj_replay.specs.declared.reenabling.ReplayError.TheVariants.{NeedsDump}
 use Rattle.cj_replay.specs.Reenabling.{RefusesReenabling}
 use Rattle.cj_replay.proofs.Restored.{refused_since, right_later}
 use Rattle.cj_replay.proofs.reenabling.catch_up.Goals as goal

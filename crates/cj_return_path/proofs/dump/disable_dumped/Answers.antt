@@ -1,4 +1,4 @@
-use Rattle.std.proofs.Common.{◌≡◌, List, Ok, Some, sym, subst}
+use Rattle.std.proofs.Common.{List, Ok, Some, sym, subst}
 use Rattle.cj_cluster.specs.declared.event.Event.{Event}
 use Rattle.cj_board.specs.Seats.{front, pass_view}
 use Rattle.cj_pass.proofs.Passes.{noted_then}

@@ -1,4 +1,4 @@
-use Rattle.cj_board.specs.Seats.{front, pass_view}
+use Rattle.cj_board.specs.Seats.{pass_view}
 use Rattle.cj_pass.proofs.Passes.{noted_then}
 use Rattle.cj_return_path.proofs.Restoring.{enables_earlier, not_replayed}
 use Rattle.cj_return_path.proofs.replays.enable.Goals as goal

@@ -1,4 +1,4 @@
-use Rattle.std.proofs.Common.{◌≡◌, ◌≤◌, length, sym, subst, ℕ, arith}
+use Rattle.std.proofs.Common.{◌≤◌, length, sym, subst, ℕ}
 use Rattle.cj_cluster.specs.History.Histories.{log}
 use Rattle.cj_cluster.proofs.Pushed.{log-prefix, prefix_length}
 use Rattle.cj_board.specs.Seats.{front, pass_view}

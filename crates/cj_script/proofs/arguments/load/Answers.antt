@@ -1,7 +1,4 @@
-use Rattle.std.proofs.Common.{None, Some}
 use Rattle.cj_cluster.specs.declared.moves.Move.TheVariants as move
-use Rattle.cj_script.specs.Reading.{NamesBackendAndDump}
-use Rattle.cj_words.specs.Words.{FindsValue}
 use Rattle.cj_script.proofs.Requests.{of_dump, of_no_dump}
 use Rattle.cj_script.proofs.arguments.load.Goals as goal
 

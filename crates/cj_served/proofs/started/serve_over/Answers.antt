@@ -1,4 +1,4 @@
-use Rattle.std.proofs.Common.{◌≡◌, ◌∙◌, sym, ap, subst, true, List, map, length}
+use Rattle.std.proofs.Common.{◌≡◌, ◌∙◌, sym, ap, subst, true, List, map}
 use Rattle.cj_cluster.specs.declared.event.Event.{Event}
 use Rattle.cj_log.specs.Logs.{KeepsItems}
 use Rattle.cj_log.specs.declared.item.LogItem.{LogItem}

@@ -1,4 +1,4 @@
-use Rattle.std.proofs.Common.{List, length, map, arith}
+use Rattle.std.proofs.Common.{List, map, arith}
 use Rattle.std.proofs.lemmas.List.{length-map}
 use Rattle.cj_top.proofs.Cited.{FlakyState, MemoryState, arming_of, backend_within, faults_by, times_armed, within_all, within_more}
 use Rattle.cj_top.proofs.generated.show_armed.Goals as goal

@@ -1,4 +1,4 @@
-use Rattle.std.proofs.Common.{◌≡◌, ◌∙◌, ap, sym, subst}
+use Rattle.std.proofs.Common.{◌∙◌, ap, sym, subst}
 use Rattle.cj_book.proofs.Starting.{new_only}
 use Rattle.cj_top.proofs.Cited.{ReadsLog, RefusesLog, StartError, read_refused, refused_records, status_of_start}
 use Rattle.cj_top.proofs.listed.items_found.Goals as goal

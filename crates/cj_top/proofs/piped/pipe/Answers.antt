@@ -1,4 +1,4 @@
-use Rattle.std.proofs.Common.{◌≡◌, ◌≤◌, Result, Ok, Err, map, refl, sym, ◌∙◌, subst}
+use Rattle.std.proofs.Common.{◌≡◌, ◌≤◌, Result, Ok, Err, map, sym, ◌∙◌, subst}
 use Rattle.cj_model.specs.declared.limits.TheConstants.{SESSION_NUMBER_LIMIT}
 use Rattle.cj_top.specs.declared.piped.PipeError.TheVariants as errors
 use Rattle.cj_top.proofs.Cited.{Found, IfErr, IfOk, IsLogOf, Layout, PipeError, RefusesPipe, Register, SessionEnd, StartsFrom, WorldState, keeps_front, placement_of, prefix_self, state_by}

@@ -1,5 +1,5 @@
 use Rattle.cj_top.proofs.Cited.{BackendKind, BackendState, Found, GoesOnIn, IfErr, IsErrAnd, MemoryState, PipeError, RefusesPipe, RunsPipe, Slot, StartsFrom, all_alike, any_are_new, both_ways, faults_of, fresh_state, in_memory, is_memory, keeps_front, list_all, new_backend, new_can_count, new_of, placement_of, same_cause, seen_alike, session_longer, sum_of_none}
-use Rattle.std.proofs.Common.{Ok, Err, Result, ◌≡◌, Bool, true, false, [], List, ℕ, Option, Some, get_or, length, map, replicate, sum, refl, sym, ap, ◌∙◌, subst, arith}
+use Rattle.std.proofs.Common.{Ok, Err, Result, ◌≡◌, Bool, true, false, [], List, ℕ, Option, Some, length, map, replicate, sum, refl, sym, ap, ◌∙◌, subst, arith}
 use Rattle.cj_cluster.specs.declared.session.SessionEnd.TheVariants as ends
 use Rattle.cj_top.proofs.piped.run_pipe.Goals as goal
 

@@ -1,5 +1,4 @@
-use Rattle.std.proofs.Common.{◌≡◌, ℕ, subst}
-use Rattle.cj_top.proofs.Cited.{ReadsLog, counted_at}
+use Rattle.cj_top.proofs.Cited.{counted_at}
 use Rattle.cj_top.proofs.program.log_command.Goals as goal
 
 pub returns-in-Err-clause-log : goal.returns-in-Err-clause-log

@@ -1,4 +1,4 @@
-use Rattle.std.proofs.Common.{◌≡◌, ℕ, List, subst}
+use Rattle.std.proofs.Common.{ℕ, List, subst}
 use Rattle.cj_model.specs.Sql.PlainRequests.{request_of}
 use Rattle.cj_desk.specs.DeskStates.{next_call, turn_taken}
 use Rattle.cj_calls.specs.Entries.{EndsStarving}

@@ -1,4 +1,4 @@
-use Rattle.std.proofs.Common.{length, sym, subst}
+use Rattle.std.proofs.Common.{length, subst}
 use Rattle.cj_board.specs.declared.view.SeatView.{SeatView}
 use Rattle.cj_board.specs.Seats.{pass_view}
 use Rattle.cj_pass.specs.Passes.{HasNotedMore}

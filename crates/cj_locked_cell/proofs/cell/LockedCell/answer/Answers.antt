@@ -1,4 +1,4 @@
-use Rattle.std.proofs.Common.{rules, ◌≡◌, ℕ, Ok, Result, sym, ◌∙◌, subst}
+use Rattle.std.proofs.Common.{ℕ, Result, subst}
 use Rattle.cj_model.specs.declared.answer.Asked.{Asked}
 use Rattle.cj_board.specs.Seats.{pass_view}
 use Rattle.cj_board.specs.Views.{pass_of}

@@ -1,4 +1,4 @@
-use Rattle.std.proofs.Common.{rules, ◌≡◌, ℕ, Some, Ok, Err, Result, sym, ◌∙◌, subst}
+use Rattle.std.proofs.Common.{rules, ◌≡◌, Ok, Err, ◌∙◌, subst}
 use Rattle.cj_board.specs.Seats.{pass_view}
 use Rattle.cj_board.specs.Views.{pass_of}
 use Rattle.cj_place.specs.Layouts.{placement_of}

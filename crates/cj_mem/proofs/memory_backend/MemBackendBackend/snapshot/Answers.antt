@@ -1,5 +1,4 @@
 use Rattle.std.proofs.Common.{◌≡◌, Bool, true, false, List, Option, IfSome, Some, ap, subst, ◌∙◌}
-use Rattle.std.specs.Arc.{arc_value}
 use Rattle.cj_model.specs.declared.database.Slot.{Slot}
 use Rattle.cj_mem.specs.MemoryBackends.{MemoryState, told_where_known}
 use Rattle.cj_mem.proofs.memory_backend.MemBackendBackend.snapshot.Goals as goal

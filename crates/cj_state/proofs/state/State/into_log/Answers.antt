@@ -1,4 +1,4 @@
-use Rattle.std.proofs.Common.{◌≡◌, ◌≤◌, ℕ, List, ap, sym, subst, arith}
+use Rattle.std.proofs.Common.{◌≤◌, subst, arith}
 use Rattle.cj_book.specs.Books.{IsKeptIn}
 use Rattle.cj_state.proofs.Cited.{WorldState}
 use Rattle.cj_state.proofs.Sharing.{kept_left}

@@ -1,5 +1,5 @@
-use Rattle.std.proofs.Common.{◌≡◌, ◌∙◌, refl, ap, sym, subst}
-use Rattle.cj_state.proofs.Cited.{IsWorld, WorldState, board_id, pass_board, states_of, world_with_log}
+use Rattle.std.proofs.Common.{refl, subst}
+use Rattle.cj_state.proofs.Cited.{IsWorld, WorldState, board_id, pass_board, world_with_log}
 use Rattle.cj_state.proofs.Sharing.{gives_next}
 use Rattle.cj_state.specs.Sharing.{IsTakenApart}
 use Rattle.cj_state.specs.Worlds.{IsFresh}
