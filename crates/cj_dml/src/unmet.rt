@@ -1,6 +1,5 @@
 //! Rows that do not meet a condition.
 
-
 use cj_expr::Predicate;
 use cj_model::Value;
 use cj_rowstore::RowTest;
