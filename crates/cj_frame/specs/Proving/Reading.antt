@@ -9,7 +9,7 @@ use Rattle.cj_model.specs.declared.message.Message.TheVariants.{Login, Query, St
 use Rattle.cj_model.specs.declared.message.FrameFault.{FrameFault}
 use Rattle.cj_model.specs.declared.message.FrameFault.TheVariants.{LengthZero, LengthOver, Kind, Payload}
 use Rattle.cj_model.specs.declared.limits.TheConstants.{FRAME_LIMIT}
-use Rattle.cj_model.specs.Wire.Fields.{number_at, bytes_at}
+use Rattle.cj_model.specs.Wire.Fields.{◌>>=◌, number_at, bytes_at}
 use Rattle.cj_model.specs.Wire.Frames.{is_client_kind}
 use Rattle.cj_frame.specs.declared.error.Stop.{Stop}
 use Rattle.cj_frame.specs.declared.error.Stop.TheVariants as stops
