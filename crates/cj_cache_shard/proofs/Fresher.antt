@@ -99,6 +99,11 @@ fresh_past told entries set k c lt touched fresh =
     (λ (h : (length entries ≤ k) × (slice_get entries k ≡ None)). let le : length entries ≤ k = h.0 in absurd (omega (arith, le, lt)))
     (slice_get_cases entries k).1
 
+-- two clauses of one value that there may be
+pub both_some : {A : Type 0} (o : Option A) (P Q : A → Type 0) → IfSome o P → IfSome o Q → IfSome o (λ a. P a × Q a)
+both_some None P Q p q = tt
+both_some (Some a) P Q p q = (p, q)
+
 -- all entries that are left, the tables of each of which are dropped
 pub fresh_over : (told : Bool) (entries : List Entry) (sets : List (List (List ℕ))) (k : ℕ) (c : CacheState) → ((i : ℕ) → i < length sets → (table : List ℕ) → has_table (get_or sets i []) table ≡ touches entries (k + i) table)
     → k + length sets ≡ length entries → IsFreshCache told (take k entries) c → IsFreshCache told entries (with_each_dropped sets c)

@@ -19,6 +19,13 @@ longer_second g h le = ap (λ b. cond b h g) (le-leb (length g) (length h) le)
 pub joined_front : (v u w : SeatView) → w ≡ after_join v u → length v.front ≤ length u.front → w.front ≡ u.front
 joined_front v u w is le = ap (λ (x : SeatView). x.front) is ∙ longer_second v.front u.front le
 
+-- A pass whose view stays v, but for what no view shows, is joined with one that has seen H, which is not shorter.
+pub joined_later : (v v' u new : SeatView) (H : List Event) → v' ≡ v → u.front ≡ H → length v.front ≤ length H → new ≡ after_join v' u → IsPrefix v'.front new.front → (new.front ≡ H) × IsPrefix v.front H
+joined_later v v' u new H kept seen less joined longer =
+    let of_kept : new ≡ after_join v u = subst (λ (x : SeatView). new ≡ after_join x u) kept joined in
+    let now : new.front ≡ H = joined_front v u new of_kept (omega (arith, less, ap (λ (h : List Event). length h) seen)) ∙ seen in
+    (now, subst (λ (h : List Event). IsPrefix v.front h) now (subst (λ (x : SeatView). IsPrefix x.front new.front) kept longer))
+
 -- The shard's pass has seen S, and the other F. They were joined, and there are no more events than in S.
 pub all_is_seen : (S F both : List Event) → IsPrefix S both → IsPrefix F both → length both ≤ length S → (both ≡ S) × (length F ≤ length S)
 all_is_seen S F both p q short = (prefix_is S both p short, (let le = prefix_length F both q in omega arith))
