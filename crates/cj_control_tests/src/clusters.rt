@@ -81,8 +81,8 @@ fn placement(rt: &impl Abort, alloc: Global) -> Result<Placement, NoMemory>
     Ok(placement)
 }
 
-/// What the tests make of a world: reads go to the backends in turn, and the result cache keeps 64 answers.
-fn parts(rt: &impl Abort, alloc: Global) -> Result<Parts, NoMemory>
+/// What the tests make of a world: reads go to the backends in turn, and the result cache keeps so many answers.
+fn parts(rt: &impl Abort, alloc: Global, cache: u32) -> Result<Parts, NoMemory>
     ensures two { IfOk result (λ parts. length parts.book.placement.names ≡ 2) }
     ensures registered { IfOk result (λ parts. parts.accounts.backends ≡ length parts.book.placement.names) }
     ensures cache { IfOk result (λ parts. parts.book.cache ≡ empty_cache parts.book.cache.capacity) }
@@ -91,16 +91,18 @@ fn parts(rt: &impl Abort, alloc: Global) -> Result<Parts, NoMemory>
         book: BookParts {
             placement: placement(rt, alloc)?,
             balancer: Balancer::new(Policy::RoundRobin, [1; BACKEND_LIMIT as usize]),
-            cache: Cache::new(alloc, 64)?,
+            cache: Cache::new(alloc, cache)?,
         },
         accounts: accounts(rt, alloc)?,
     })
 }
 
-/// Starts a world over two empty backends and an empty log, whose store fails at these calls, and takes it apart.
+/// Starts a world with such a cache over two empty backends and an empty log, whose store fails at these calls, and
+/// takes it apart.
 fn started<B: Backend + Drop>(
     rt: &impl Abort,
     alloc: Global,
+    cache: u32,
     one: B,
     other: B,
     log_fails: Vec<u64>,
@@ -114,7 +116,7 @@ fn started<B: Backend + Drop>(
     backends.push(one)?;
     backends.push(other)?;
     let log = MemStore::new(Vec::new(alloc), log_fails);
-    match World::start(alloc, parts(rt, alloc)?, log, backends) {
+    match World::start(alloc, parts(rt, alloc, cache)?, log, backends) {
         Ok(world) => Ok(world.into_shared()),
         Err(_) => panic!(rt; "the world does not start"),
     }
@@ -149,7 +151,27 @@ where
     }
 }
 
-/// Takes the steps at a new cluster over these backends, and gives them up. The store of its log fails at these calls.
+/// Takes the steps at a new cluster over these backends, and gives them up. The store of its log fails at these calls,
+/// and its result cache keeps so many answers.
+pub fn play_with_cache<B: Backend + Drop + Send, R: Threads + Wait + Abort + Sync>(
+    rt: &R,
+    alloc: Global,
+    cache: u32,
+    one: B,
+    other: B,
+    log_fails: Vec<u64>,
+    steps: &[Step<'_>],
+) -> Result<ListOf<B>, NoMemory>
+where
+    B::Snap: Send,
+    requires empty { B.tells ≡ true → (B.told one ≡ Some []) × (B.told other ≡ Some []) }
+    requires none { (B.begun one ≡ []) × (B.begun other ≡ []) }
+{
+    let shared = started(rt, alloc, cache, one, other, log_fails)?;
+    play_at::<Brand, B, R>(rt, alloc, shared, Blank::new(1), steps)
+}
+
+/// Takes the steps as `play_with_cache` does, at a cluster whose result cache keeps 64 answers.
 pub fn play<B: Backend + Drop + Send, R: Threads + Wait + Abort + Sync>(
     rt: &R,
     alloc: Global,
@@ -163,6 +185,5 @@ where
     requires empty { B.tells ≡ true → (B.told one ≡ Some []) × (B.told other ≡ Some []) }
     requires none { (B.begun one ≡ []) × (B.begun other ≡ []) }
 {
-    let shared = started(rt, alloc, one, other, log_fails)?;
-    play_at::<Brand, B, R>(rt, alloc, shared, Blank::new(1), steps)
+    play_with_cache(rt, alloc, 64, one, other, log_fails, steps)
 }

@@ -1,5 +1,5 @@
 use Rattle.cj_board.specs.Seats.{board_id}
-use Rattle.cj_control_tests.proofs.clusters.play.Given as goal
+use Rattle.cj_control_tests.proofs.clusters.play_with_cache.Given as goal
 
 -- the names of the cluster that is made
 abbrev pub ghosts-play_at : goal.ghosts-play_at
