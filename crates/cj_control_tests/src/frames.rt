@@ -4,6 +4,7 @@ use cj_model::NoMemory;
 use std::alloc::Global;
 
 /// A message that a session sends.
+#[derive(Drop)]
 pub enum Sent<'a> {
     Query(&'a str),
     Stats,
