@@ -32,16 +32,14 @@ const LAG: u64 = 10000;
 /// A backend that fails does so in so many calls.
 const FAILS: u64 = 3;
 
-/// Its cache is one shard, too small for all answers.
 const EVERYWHERE: &[u8] = b"level = \"raidb1\"
 cache = 8
 backends = [{ name = \"b0\", kind = \"memory\" }, { name = \"b1\", kind = \"memory\" }, { name = \"b2\", kind = \"memory\" }, { name = \"b3\", kind = \"memory\" }]
 users = [{ name = \"ann\", sha256 = \"2bb80d537b1da3e38bd30361aa855686bde0eacd7162fef6a25fe97bf527a25b\", logins = [\"l0\", \"l1\", \"l2\", \"l3\"] }]
 ";
 
-/// Its cache has 16 shards.
 const IN_PART: &[u8] = b"level = \"raidb2\"
-cache = 2048
+cache = 8
 backends = [{ name = \"b0\", kind = \"memory\" }, { name = \"b1\", kind = \"memory\" }, { name = \"b2\", kind = \"memory\" }, { name = \"b3\", kind = \"memory\" }]
 tables = [{ name = \"t0\", hosts = [\"b0\", \"b1\"] }, { name = \"t1\", hosts = [\"b1\", \"b2\", \"b3\"] }, { name = \"t2\", hosts = [\"b0\", \"b2\", \"b3\"] }, { name = \"t3\", hosts = [\"b2\", \"b3\"] }]
 users = [{ name = \"ann\", sha256 = \"2bb80d537b1da3e38bd30361aa855686bde0eacd7162fef6a25fe97bf527a25b\", logins = [\"l0\", \"l1\", \"l2\", \"l3\"] }]
