@@ -2,7 +2,7 @@
 //!
 //! A `Book` knows the open entry and its targets, enabled backends and markers.
 //! It has the open sessions and transactions as the lists of `cj_transactions`, and hands them each entry.
-//! It also holds the placement of tables, the balancer of reads and the cache of answers.
+//! It also holds the placement of tables, the balancer of reads, and the cache of answers where no threads share it.
 //! Each event goes to the board in the call that brings it. No second list of events is kept.
 //! Contracts promise that the log's items are the history's entries and markers, also after a crash.
 //! They name each refusal and what it leaves (`specs/Books`, `specs/Events`, `specs/Seated`).
@@ -30,7 +30,6 @@ mod touching;
 
 pub use book::{Book, BookParts};
 pub use book_log::BookLog;
-pub use cj_cache::SharedAnswer;
 pub use counter::Counter;
 pub use error::{BookError, OwnError, SessionsFull, StartError};
 pub use news::{Heard, NEWS_LIMIT, News};

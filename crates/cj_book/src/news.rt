@@ -27,7 +27,7 @@ pub struct Heard {
 pub struct News {
     pub heard: Heard,
     pub from: u64,
-    /// The tables that each entry after those touches. None where there are more than `NEWS_LIMIT`.
+    /// The tables that each entry after those touches. None where there are more than `NEWS_LIMIT` such entries.
     pub touched: Option<Vec<TableSet>>,
 }
 

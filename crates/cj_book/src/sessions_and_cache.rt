@@ -1,9 +1,8 @@
 //! Calls that change a book and bring no event: sessions, the reads that the balancer counts, and the cache.
 
-ghost use Rattle.std.specs.Prelude.{◌≡◌, ◌≢◌, ◌↔◌, ◌+◌, ◌^◌, ◌<◌, ◌≤◌, true, length, Contains, IsNone, IfSome, option_map, IfOk, IfErr, OnOk, OnErr, IsErr, Ok};
+ghost use Rattle.std.specs.Prelude.{◌≡◌, ◌≢◌, ◌↔◌, ◌+◌, ◌^◌, ◌<◌, ◌≤◌, true, length, Contains, IsNone, IfSome, IfOk, IfErr, OnOk, OnErr, IsErr, Ok};
 ghost use Rattle.cj_model.specs.Cluster.Balancing.{one_less};
-ghost use Rattle.cj_cache.specs.Kept.{kept_parts, shared_parts};
-ghost use Rattle.cj_model.specs.Cluster.Caching.{after_keep, after_look, cached_entry, has_answer};
+ghost use Rattle.cj_model.specs.Cluster.Caching.{after_keep, after_look, has_answer};
 ghost use Rattle.cj_cluster.specs.History.Histories.{log};
 ghost use Rattle.cj_cluster.specs.History.Freshness.{NoneTouches};
 ghost use Rattle.cj_book.specs.Books as books;
@@ -14,7 +13,6 @@ use crate::book::Book;
 use crate::error::SessionsFull;
 use crate::touching::is_touched_behind;
 use cj_balance::Balancer;
-use cj_cache::SharedAnswer;
 use cj_model::{
     Answer, BACKEND_LIMIT, NoMemory, Policy, SESSION_LIMIT, SESSION_NUMBER_LIMIT, Select,
 };
@@ -107,20 +105,6 @@ impl Book {
         ensures seat { HasSameSeat self.old self.new }
     {
         self.cache.touch(select)
-    }
-
-    /// Looks the query up in the cache as `look` does, and returns a share of the answer that is kept, with its log
-    /// position. Takes constant time past the look-up, so that a lock on the book is short, and the rows are copied
-    /// after it.
-    ///
-    /// `NoMemory`: an answer is kept, and a share of it can't be counted. The look-up is counted all the same.
-    pub fn look_up(&mut self, select: &Select) -> Result<Option<SharedAnswer>, NoMemory>
-        ensures shared { IfOk result (λ shared. option_map shared_parts shared ≡ option_map kept_parts (cached_entry select.now self.old.state.cache.entries)) }
-        ensures err { OnErr result (has_answer select.now self.old.state.cache ≡ true) }
-        ensures looked { self.new.state ≡ record self.old.state { cache = after_look select.now self.old.state.cache } }
-        ensures seat { HasSameSeat self.old self.new }
-    {
-        self.cache.look_up(select)
     }
 
     /// Gives the cache an answer that reflects the first `at` entries of the log, and returns whether it did.

@@ -1,4 +1,4 @@
-//! Answers that the result cache keeps, behind locks of their own, so that a hit takes no lock that all threads share.
+//! Answers that the result cache keeps, behind locks of their own, so that a hit takes no lock of the book.
 //!
 //! A shard has heard of a beginning of the history, and each answer in it is fresh there (`IsFreshCache`). A look says
 //! so if the board has more events by now: then the shard is to hear the news from the book first (`catch_up`).

@@ -14,8 +14,8 @@ ghost use Rattle.cj_book.specs.News.{AreTouchedFrom, IsHeard, IsNewsFrom};
 ghost use Rattle.cj_pass.specs.Passes.{HasNotedMore};
 ghost use Rattle.cj_cache_shard.specs.Shards.{IsFound, LooksInShard, with_each_dropped};
 
-use cj_book::{Heard, News, SharedAnswer};
-use cj_cache::Cache;
+use cj_book::{Heard, News};
+use cj_cache::{Cache, SharedAnswer};
 use cj_model::{Answer, Cached, NoMemory, Select, TableSet};
 use cj_pass::{NamedBoard, Naming, Pass};
 use cj_place::Placement;
@@ -100,8 +100,7 @@ impl<J: Naming> CacheShard<J> {
     }
 
     /// Looks a query up, outside of transactions, whose session needs a position not below `least`. A hit or a miss is
-    /// counted where the shard has heard of all events, and a backend serves the query. The pass has seen what the
-    /// shard has heard of then.
+    /// counted where the shard has heard of all events, and a backend serves the query.
     ///
     /// `NoMemory`: an answer is kept, and could not be shared. The look-up is counted all the same.
     pub fn look_up(
@@ -169,6 +168,13 @@ impl<J: Naming> CacheShard<J> {
         let seen = board.split(pass);
         board.rejoin(&mut self.pass, seen);
         self.heard = news.heard;
+    }
+
+    /// Returns whether the shard has heard of exactly so many entries. It keeps answers of that position alone.
+    pub fn has_heard(&self, entries: u64) -> bool
+        ensures { (result ≡ true) ↔ (entries ≡ self.now.heard.entries) }
+    {
+        entries == self.heard.entries
     }
 
     /// Keeps an answer that is right at the position of the log up to which the shard has heard. False if it is one of

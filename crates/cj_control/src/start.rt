@@ -37,10 +37,11 @@ use std::sync::{Condvar, Mutex};
 /// has `SHARD_COUNT` shards, and in each the one goes that was used before the others there.
 const LONE_SHARD_LIMIT: u32 = 1024;
 
+/// The shards of a cache of more answers.
 const SHARD_COUNT: u32 = 16;
 
-/// All memory that a start takes: a copy of the placement, the lanes of the backends' workers, empty caches for the
-/// shards of the result cache, and empty lists with room for the locks of the cells and of the shards, and for the cells.
+/// All memory that a start takes: a copy of the placement, the lanes of the backends' workers, and empty caches for the
+/// shards of the result cache. Its empty lists have room for the locks of cells and shards, and for the cells.
 #[derive(Drop)]
 struct Room<J: Naming, B: Backend> {
     placement: Placement,

@@ -1,4 +1,4 @@
-//! The book and the cells, each behind its lock.
+//! The book, the cells and the shards of the result cache, each behind its lock.
 
 ghost use Rattle.std.specs.Prelude.{◌≡◌, ◌<◌, List, true, false, length, None, is_none};
 ghost use Rattle.std.specs.Sync.Mutex.{mutex_guard_value};
@@ -31,8 +31,8 @@ use std::alloc::Global;
 use std::hash::{BuildHasher, BuildHasherDefault, FoldHasher};
 use std::sync::{Condvar, Mutex, MutexGuard, Wait};
 
-/// The book and the cells of a cluster, each behind a lock, at the board, the layout and the turn's ledger that `J`
-/// names.
+/// The book, the cells and the shards of the result cache of a cluster, each behind a lock, at the board, the layout and
+/// the turn's ledger that `J` names.
 ///
 /// A thread that holds one of the locks takes no other.
 #[derive(Drop)]
@@ -50,7 +50,7 @@ pub struct Locks<J: Naming, B: Backend, S: Store> {
     pub lanes: Vec<WorkLane<J>>,
     pub placement: Placement,
     pub accounts: Accounts,
-    /// The result cache. A query has its answer in one of them, by its hash. None where nothing is kept.
+    /// The result cache. A query has its answer in one of these, by its hash. There is none where nothing is kept.
     pub shards: Vec<Mutex<CacheShard<J>>>,
     /// Whether the balancer's policy counts the reads that are pending.
     pub counts_reads: bool,
@@ -101,8 +101,9 @@ impl<J: Naming, B: Backend, S: Store + Drop> Locks<J, B, S> {
 
     /// Returns the shard of the result cache that may keep the answer of a query. None where nothing is kept.
     pub fn shard_of(&self, select: &Select) -> Option<&Mutex<CacheShard<J>>> {
-        if self.shards.is_empty() {
-            return None;
+        // A lone shard needs no hash.
+        if self.shards.len() <= 1 {
+            return self.shards.first();
         }
         let hash = BuildHasherDefault::<FoldHasher>::new().hash_one(select);
         // A shard finds a query by the low bits of the same hash.

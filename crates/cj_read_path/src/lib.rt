@@ -1,4 +1,5 @@
-//! The way of a query through the locks of `cj_locks`: a look at the book, a backend's cell, and the book once more.
+//! The way of a query through the locks of `cj_locks`: its shard of the result cache, a look at the book, a backend's
+//! cell, and then the book and the shard once more. An answer that the shard keeps ends it at the first.
 //!
 //! Each function takes the `Locks` first, and then what a thread has: its handle and its `Pass`.
 //! Promised: `read` is a turn of the session whose own pass it is given (`Turn` of `cj_cluster`), and says from which

@@ -1,4 +1,4 @@
-//! The way of a query: a look at the book, a backend's cell, and the book once more.
+//! The way of a query: its shard of the result cache, the book, a backend's cell, and the book and the shard again.
 
 ghost use Rattle.std.specs.Prelude.{◌≡◌, ◌⊎◌, ℕ, ◌<◌, ◌≤◌, List, true, false, length, IfOk, IfSome, None};
 ghost use mathlib.Core.List.{IsPrefix};
@@ -120,6 +120,20 @@ fn copied(alloc: Global, select: &Select, rows: &Answer, at: u64) -> Result<Cach
     Ok(Cached { select, answer, at })
 }
 
+/// Returns the shard of the result cache that may keep the answer of the query. None inside transactions, and where
+/// nothing is kept.
+fn shard_for<'a, J: Naming, B: Backend, S: Store + Drop>(
+    locks: &'a Locks<J, B, S>,
+    query: &Query<'_>,
+) -> Option<&'a Mutex<CacheShard<J>>>
+    ensures outside { IfSome result (λ shard. query.now.tx ≡ 0) }
+{
+    if query.tx != 0 {
+        return None;
+    }
+    locks.shard_of(query.select)
+}
+
 /// Looks the query up in a shard of the result cache.
 fn look_up<J: Naming, B: Backend, S: Store + Drop, R: Wait>(
     locks: &Locks<J, B, S>,
@@ -193,10 +207,10 @@ fn find_kept<J: Naming, B: Backend, S: Store + Drop, R: Wait>(
     ensures kept { IfSome result (λ kept. IsFound J.tells (placement_of J.layout) (front pass.new.seat) query.now.select.now query.now.least (Kept kept.0 kept.1)) }
     ensures more { HasNotedMore (pass_view pass.old.seat) (pass_view pass.new.seat) }
 {
-    if !first || query.tx != 0 {
+    if !first {
         return None;
     }
-    let shard = locks.shard_of(query.select)?;
+    let shard = shard_for(locks, query)?;
     match look_up(locks, rt, shard, pass, query) {
         Ok(Found::Kept(answer, at)) => Some((answer, at)),
         Ok(Found::Behind(entries)) => look_up_again(locks, rt, shard, pass, query, entries),
@@ -293,35 +307,37 @@ fn end_read<J: Naming, B: Backend, S: Store + Drop, R: Wait>(locks: &Locks<J, B,
     }
 }
 
-/// Copies the query and its answer for the cache, if that keeps answers and this is one that it may keep. None
-/// also where memory is wanting.
-fn copy_for_cache<J: Naming, B: Backend, S: Store + Drop>(
+/// Copies the query and its answer for a shard of the result cache, while no lock is held. None where the shard may not
+/// keep the answer, which is right at position `at`, and where memory is wanting.
+fn copy_for_cache<J: Naming, B: Backend, S: Store + Drop, R: Wait>(
     locks: &Locks<J, B, S>,
-    query: &Query<'_>,
+    rt: &R,
+    shard: &Mutex<CacheShard<J>>,
+    select: &Select,
     answer: &Asked,
     at: u64,
 ) -> Option<Cached>
-    ensures { IfSome result (λ copy. (query.now.tx ≡ 0) × (copy.select ≡ query.now.select.now) × (asked.Rows copy.answer ≡ answer.now) × (copy.at ≡ at)) }
+    ensures { IfSome result (λ copy. (copy.select ≡ select.now) × (asked.Rows copy.answer ≡ answer.now) × (copy.at ≡ at)) }
 {
-    if locks.shards.is_empty() || query.tx != 0 {
-        return None;
-    }
     let Asked::Rows(rows) = answer else {
         return None;
     };
-    match copied(locks.alloc, query.select, rows, at) {
+    if !shard.lock(rt).has_heard(at) {
+        return None;
+    }
+    match copied(locks.alloc, select, rows, at) {
         Ok(copy) => Some(copy),
         Err(_) => None,
     }
 }
 
-/// Gives a copy of the query and its answer to the shard of the result cache that may keep it. Whether it is kept
-/// changes nothing of the reply.
+/// Gives a copy of the query and its answer to a shard of the result cache. Whether it is kept changes nothing of the
+/// reply.
 fn keep<J: Naming, B: Backend, S: Store + Drop, R: Wait>(
     locks: &Locks<J, B, S>,
     rt: &R,
+    shard: &Mutex<CacheShard<J>>,
     pass: &mut Pass<J>,
-    query: &Query<'_>,
     copy: Cached,
 )
     requires possible { IsAnswer copy.answer }
@@ -329,16 +345,10 @@ fn keep<J: Naming, B: Backend, S: Store + Drop, R: Wait>(
     requires right { J.tells ≡ true → IsAnswerAt (log (front pass.old.seat)) copy.at copy.select (asked.Rows copy.answer) }
     ensures same { pass_view pass.new.seat ≡ pass_view pass.old.seat }
 {
-    match locks.shard_of(query.select) {
-        Some(shard) => {
-            let _kept = shard.lock(rt).keep(&locks.board, pass, copy);
-        }
-        None => {}
-    }
+    let _kept = shard.lock(rt).keep(&locks.board, pass, copy);
 }
 
-/// Notes that a read has ended at backend `b`, which answered at position `at`, and gives the result cache a copy. The
-/// copy is made while no lock is held.
+/// Notes that a read has ended at backend `b`, which answered at position `at`, and gives the result cache a copy.
 fn end_answered<J: Naming, B: Backend, S: Store + Drop, R: Wait>(
     locks: &Locks<J, B, S>,
     rt: &R,
@@ -354,8 +364,11 @@ fn end_answered<J: Naming, B: Backend, S: Store + Drop, R: Wait>(
     ensures same { pass_view pass.new.seat ≡ pass_view pass.old.seat }
 {
     end_read(locks, rt, b);
-    match copy_for_cache(locks, query, answer, at) {
-        Some(copy) => keep(locks, rt, pass, query, copy),
+    let Some(shard) = shard_for(locks, query) else {
+        return;
+    };
+    match copy_for_cache(locks, rt, shard, query.select, answer, at) {
+        Some(copy) => keep(locks, rt, shard, pass, copy),
         None => {}
     }
 }
@@ -527,7 +540,7 @@ fn tried_all<J: Naming, B: Backend, S: Store + Drop, R: Wait>(
     None
 }
 
-/// Copies an answer that the cache keeps, while no lock is held. It is right at position `at`.
+/// Copies an answer that the result cache keeps, while no lock is held. It is right at position `at`.
 fn reply_kept<J: Naming, B: Backend, S: Store + Drop>(
     locks: &Locks<J, B, S>,
     query: &Query<'_>,
@@ -542,8 +555,7 @@ fn reply_kept<J: Naming, B: Backend, S: Store + Drop>(
     }
 }
 
-/// Does what follows a look at the book, in which the query was to be answered by a backend of those that were not tried.
-/// None where the query goes on.
+/// Does what follows a look at the book for a backend that was not tried. None where the query goes on.
 fn follow<J: Naming, B: Backend, S: Store + Drop, R: Wait>(
     locks: &Locks<J, B, S>,
     rt: &R,
