@@ -1,12 +1,12 @@
 //! The administrator: ends orphans, sets checkpoints, audits, and disables a backend.
 
-use crate::lines::Lines;
 use crate::worker::{Stage, Worker};
 use cj_administration::{AdminError, abort_orphan};
 use cj_backend::Backend;
 use cj_control::Naming;
 use cj_model::{Name, NoMemory, Text};
 use cj_outside::{Draw, Store};
+use cj_stress_text::Lines;
 use std::sync::Wait;
 
 /// In this round a backend is disabled.

@@ -6,8 +6,6 @@ ghost use Rattle.cj_model.specs.declared.request.Request.TheVariants as request;
 ghost use Rattle.cj_model.specs.Sql.WrittenRequests.{IsWritten};
 ghost use Rattle.cj_desk.specs.DeskStates.{desk_tx};
 
-use crate::lines::Lines;
-use crate::statements::{changes, drawn_session, drawn_update, lookups, session_of, tables};
 use crate::worker::{Stage, Worker};
 use cj_backend::Backend;
 use cj_control::Naming;
@@ -17,6 +15,7 @@ use cj_model::{Act, NoMemory, Reply, Request, Text, USER_LIMIT, Write};
 use cj_outside::{FixedClock, MemSink, MemSource, PcgDraw, Store};
 use cj_session::serve_session;
 use cj_sql::read;
+use cj_stress_text::{Lines, changes, drawn_session, drawn_update, lookups, session_of, tables};
 use std::alloc::Global;
 use std::sync::Wait;
 

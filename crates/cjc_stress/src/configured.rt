@@ -7,7 +7,6 @@ ghost use Rattle.cj_flaky.specs.FlakyBackends.{fresh_over};
 ghost use Rattle.cj_mem.specs.MemoryBackends.{fresh_state};
 
 use crate::gate::Slow;
-use crate::tasks::{Placed, Task, Wrong};
 use cj_balance::Balancer;
 use cj_book::BookParts;
 use cj_cache::Cache;
@@ -17,6 +16,7 @@ use cj_flaky::{Flaky, Gated};
 use cj_mem::MemBackend;
 use cj_model::{ListOf, NoMemory};
 use cj_outside::{Draw, PcgDraw};
+use cj_stress_text::{Placed, Task, Wrong};
 use std::alloc::Global;
 use std::time::Clock;
 

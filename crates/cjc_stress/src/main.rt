@@ -6,27 +6,23 @@
 //! database's. `bench` serves sessions that only read or only write, and writes how long each took. Both promise
 //! nothing of their own.
 //!
-//! To change: what threads do is in `client.rt` and `administrator.rt`, a new kind of statement in `statements.rt`, a
-//! new measure in `measures.rt`. Words are in `tasks.rt`.
+//! To change: what threads do is in `client.rt` and `administrator.rt`, a new measure in `measures.rt`. The words of the
+//! command, the statements and the lines that are told are in `cj_stress_text`.
 #![tactic(auto)]
 
 mod administrator;
 mod client;
 mod configured;
 mod gate;
-mod lines;
 mod measures;
-mod statements;
-mod tasks;
 mod trial;
 mod worker;
 
 use crate::configured::setting;
-use crate::lines::Lines;
-use crate::tasks::{USAGE, task_of};
 use crate::trial::try_tried;
 use cj_edge::{FileStore, StdSink, words};
 use cj_outside::{Sink, write_all};
+use cj_stress_text::{Lines, USAGE, task_of};
 use std::alloc::Global;
 use std::fs::File;
 use std::process::ExitCode;

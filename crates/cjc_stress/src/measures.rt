@@ -5,9 +5,6 @@ ghost use Rattle.cj_cluster.specs.History.Histories.{is_free};
 ghost use Rattle.cj_desk.specs.DeskStates.{desk_tx};
 
 use crate::client::served;
-use crate::lines::Lines;
-use crate::statements::{append_query, login, session_of};
-use crate::tasks::{Kind, Measure};
 use crate::worker::{Stage, Worker};
 use cj_backend::Backend;
 use cj_control::Naming;
@@ -15,6 +12,7 @@ use cj_core::World;
 use cj_desk::Desk;
 use cj_model::NoMemory;
 use cj_outside::{Draw, PcgDraw, Store};
+use cj_stress_text::{Kind, Lines, Measure, append_query, login, session_of};
 use std::alloc::Global;
 use std::sync::Wait;
 use std::sync::atomic::Ordering;

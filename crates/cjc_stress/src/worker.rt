@@ -1,11 +1,10 @@
 //! What threads have, each for itself and together.
 
-use crate::lines::Lines;
-use crate::tasks::Task;
 use cj_backend::Backend;
 use cj_control::{Control, Naming, Pass};
 use cj_model::NoMemory;
 use cj_outside::{PcgDraw, Store};
+use cj_stress_text::{Lines, Task};
 use std::alloc::Global;
 use std::sync::atomic::AtomicBool;
 use std::sync::{Mutex, Wait};
