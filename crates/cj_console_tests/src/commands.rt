@@ -1,7 +1,8 @@
 //! What each command is answered, and why it is refused while nothing fails.
 
-use crate::clusters::{NO_FAULTS, partial, play, replicated};
+use crate::clusters::{NO_FAULTS, play};
 use crate::steps::{Row, Step};
+use cj_test_setup::{partial, replicated};
 use std::test::Fail;
 
 const CREATE: &str = "CREATE TABLE t (k INTEGER PRIMARY KEY)";
@@ -79,7 +80,7 @@ fn a_refusal_names_the_table(rt: HostRuntime) -> Result<(), Fail> {
     ];
     let requests = [CREATE, "CREATE TABLE u (k INTEGER PRIMARY KEY)"];
     let steps = [Step::Session(&requests), Step::Rows(&rows)];
-    play(&rt, alloc, partial(&rt, alloc)?, NO_FAULTS, &steps)?;
+    play(&rt, alloc, partial(&rt, alloc, "b1")?, NO_FAULTS, &steps)?;
     Ok(())
 }
 

@@ -1,7 +1,8 @@
 //! What is answered where a backend, the log or the shelf fails.
 
-use crate::clusters::{Faults, NO_FAULTS, backend_fails, partial, play, replicated};
+use crate::clusters::{Faults, NO_FAULTS, backend_fails, play};
 use crate::steps::{Row, Step};
+use cj_test_setup::{partial, replicated};
 use std::test::Fail;
 
 const CREATE: &str = "CREATE TABLE t (k INTEGER PRIMARY KEY)";
@@ -51,7 +52,7 @@ fn a_dump_has_each_table_of_the_backend(rt: HostRuntime) -> Result<(), Fail> {
         Step::Rows(&rows),
     ];
     let faults = backend_fails(3);
-    play(&rt, alloc, partial(&rt, alloc)?, faults, &steps)?;
+    play(&rt, alloc, partial(&rt, alloc, "b1")?, faults, &steps)?;
     Ok(())
 }
 

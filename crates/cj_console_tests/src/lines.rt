@@ -1,9 +1,10 @@
 //! Lines that are no commands, and how a console ends.
 
-use crate::clusters::{NO_FAULTS, play, replicated};
+use crate::clusters::{NO_FAULTS, play};
 use crate::steps::{Chat, Row, Step};
 use cj_console::ConsoleEnd;
 use cj_model::NoMemory;
+use cj_test_setup::replicated;
 use std::alloc::Global;
 use std::test::Fail;
 

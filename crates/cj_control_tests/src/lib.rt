@@ -3,7 +3,7 @@
 //!
 //! The crate has only tests, so that each crate of functions is proved once. A test lists the steps that are taken at
 //! a cluster over two backends, each with what it is to give, and looks at the backends at the end. `clusters` starts
-//! the cluster and gives it up, and `steps` takes a step. `frames` has what sessions send and are sent, worked out by
+//! the cluster (`cj_test_setup`) and gives it up, and `steps` takes a step. `frames` has what sessions send and are sent, worked out by
 //! hand from docs/FORMATS.md.
 //! Some cases have no test. A caller that was left makes no call, since `leave` takes it. Neither a full history nor a
 //! cluster without session numbers can be made, as both take 2^62 calls.

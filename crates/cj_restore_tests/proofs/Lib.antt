@@ -1,2 +1,1 @@
 mod Shelved
-mod Transactions

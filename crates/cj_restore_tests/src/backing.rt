@@ -1,8 +1,9 @@
 //! What a backup of a backend is answered, and what it leaves.
 
-use crate::clusters::{play, replicated};
+use crate::clusters::play;
 use crate::gates::{Flags, backend};
 use crate::steps::Step;
+use cj_test_setup::replicated;
 use std::test::Fail;
 
 const NOT_ENABLED: Result<u64, &str> = Err("the backend is not enabled");

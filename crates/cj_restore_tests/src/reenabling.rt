@@ -1,8 +1,9 @@
 //! A backend that comes back: with no dump, by one, and while a session goes on.
 
-use crate::clusters::{partial, play, replicated};
+use crate::clusters::play;
 use crate::gates::{Flags, backend};
 use crate::steps::Step;
+use cj_test_setup::{partial, replicated};
 use std::sync::Arc;
 use std::test::Fail;
 
@@ -112,7 +113,7 @@ fn a_dump_has_each_table_of_the_backend(rt: HostRuntime) -> Result<(), Fail> {
         Step::Reenable(0, NEEDS_DUMP),
         Step::Audit(b"b1 t base 1\n1\n"),
     ];
-    let placement = partial(&rt, alloc)?;
+    let placement = partial(&rt, alloc, "b0")?;
     play(&rt, alloc, placement, one, other, Vec::new(alloc), &steps)?;
     Ok(())
 }

@@ -8,7 +8,6 @@ ghost use Rattle.cj_desk.specs.DeskStates.{desk_tx};
 ghost use Rattle.cj_return_path.specs.Restoring.{IsRightDump};
 
 use crate::gates::Flags;
-use crate::requests::request;
 use cj_administration::checkpoint;
 use cj_backend::Backend;
 use cj_backup::{BackupError, backup};
@@ -18,6 +17,7 @@ use cj_model::{Name, NoMemory};
 use cj_outside::MemStore;
 use cj_replay::{ReplayError, reenable};
 use cj_shelf::Shelf;
+use cj_test_setup::request;
 use std::alloc::Global;
 use std::fmt::Display;
 use std::process::Abort;

@@ -1,10 +1,11 @@
 //! Connections that are served, by threads and without.
 
 use crate::clusters::serve_at_new;
-use crate::connections::{connection, has_heard, meets, silence};
+use crate::connections::meets;
 use crate::frames::{BROKEN_OFF, DONE, LAST_SESSION, REPLIES, SENT_T, SENT_U, SESSIONS_FULL};
 use cj_port::MemPort;
 use cj_serve::ServeEnd;
+use cj_test_setup::{connection, has_heard, silence};
 use std::process::Abort;
 use std::sync::Arc;
 use std::sync::atomic::{AtomicU64, Ordering};

@@ -2,15 +2,14 @@
 //! in memory.
 //!
 //! The crate has only tests, so that each crate of functions is proved once. Each test serves a new cluster over two
-//! backends (`clusters`), and looks at what each client heard (`connections`) and at what the console wrote. `frames`
-//! has what clients send and are sent, worked out by hand from docs/FORMATS.md. No answer depends on a schedule.
+//! backends (`clusters`), and looks at what each client heard and at what the console wrote. `frames` has what clients
+//! send and are sent, worked out by hand from docs/FORMATS.md. Connections are those of `cj_test_setup`. No answer
+//! depends on a schedule.
 //! To change: a new case goes into `serving`, or into `refusals` if nothing is served.
 #![tactic(auto)]
 
 #[cfg(test)]
 mod clusters;
-#[cfg(test)]
-mod connections;
 #[cfg(test)]
 mod frames;
 #[cfg(test)]

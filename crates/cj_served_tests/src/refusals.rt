@@ -1,13 +1,13 @@
 //! Stores that are refused: nothing is served then, and both come back.
 
 use crate::clusters::{Setting, serve_new};
-use crate::connections::{connection, has_heard, silence};
 use crate::frames::SENT_T;
 use cj_book::StartError;
 use cj_outside::{MemSink, MemSource};
 use cj_port::MemPort;
 use cj_served::Unserved;
 use cj_shelf::ShelfError;
+use cj_test_setup::{connection, has_heard, silence};
 use std::process::Abort;
 use std::test::Fail;
 

@@ -1,13 +1,13 @@
 //! A console beside sessions, by threads and without.
 
 use crate::clusters::{Setting, serve_new};
-use crate::connections::{connection, has_heard, silence};
 use crate::frames::{REPLIES, SENT_T, SENT_U};
 use cj_console::ConsoleEnd;
 use cj_outside::{MemSink, MemSource};
 use cj_port::MemPort;
 use cj_serve::ServeEnd;
 use cj_served::status_of_serving;
+use cj_test_setup::{connection, has_heard, silence};
 use std::process::Abort;
 use std::test::Fail;
 

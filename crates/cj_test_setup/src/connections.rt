@@ -1,4 +1,4 @@
-//! Connections in memory: a sink whose bytes its test still sees.
+//! Connections in memory, whose sink a test still sees.
 
 ghost use Rattle.std.specs.Prelude.{None};
 
