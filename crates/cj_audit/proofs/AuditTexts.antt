@@ -14,7 +14,8 @@ use Rattle.cj_model.specs.Sql.Literals.{literal}
 use Rattle.cj_model.specs.Sql.Names.{IsText}
 pub use Rattle.cj_print.proofs.Texts.{empty_text}
 use Rattle.cj_print.proofs.Texts.{ascii_text, count_text, joined_text, name_text, number_text, quoted_text}
-use Rattle.cj_audit.specs.Audits.{AuditsAreTexts, IsTypedSlot, IsTypedTable, IsTypedValue, draft_lines, draft_state, row_lines, table_row_text, slot_lines, table_head, table_lines, ended_line}
+use Rattle.cj_cluster.specs.Script.Lines.{with_line_feed}
+use Rattle.cj_audit.specs.Audits.{AuditsAreTexts, IsTypedSlot, IsTypedTable, IsTypedValue, draft_lines, draft_state, row_lines, table_row_text, slot_lines, table_head, table_lines}
 
 -- the texts of items one after another are a text
 concatenated_text : {A : Type 0} (P : A → Type 0) (f : A → List ℕ) → ((x : A) → P x → IsText (f x)) → (xs : List A) → All P xs → IsText (flat_map f xs)
@@ -29,7 +30,7 @@ literal_text (value.Text t) h = quoted_text t h
 behind_comma : (v : Value) → IsTypedValue v → IsText (codes ", " ++ literal v)
 behind_comma v h = joined_text (codes ", ") (literal v) (ascii_text (codes ", ") refl) (literal_text v h)
 
-line_text : (line : List ℕ) → IsText line → IsText (ended_line line)
+line_text : (line : List ℕ) → IsText line → IsText (with_line_feed line)
 line_text line h = joined_text line (10 ∷ []) h (ascii_text (10 ∷ []) refl)
 
 behind_space : (z : List ℕ) → IsText z → IsText (32 ∷ z)
@@ -53,9 +54,9 @@ head_text name state t n s h =
 
 table_text : (name state : List ℕ) (t : Table) → IsText name → IsText state → IsTypedTable t → IsText (table_lines name state t)
 table_text name state t n s h =
-    joined_text (ended_line (table_head name state t)) (row_lines t.rows)
+    joined_text (with_line_feed (table_head name state t)) (row_lines t.rows)
     (line_text (table_head name state t) (head_text name state t n s h))
-    (concatenated_text (λ row. All IsTypedValue row) (λ row. ended_line (table_row_text row)) (λ row all. line_text (table_row_text row) (row_is_text row all)) t.rows h.values)
+    (concatenated_text (λ row. All IsTypedValue row) (λ row. with_line_feed (table_row_text row)) (λ row all. line_text (table_row_text row) (row_is_text row all)) t.rows h.values)
 
 draft_text : (name : List ℕ) (draft : Option Draft) → IsText name → IfSome draft (λ (d : Draft). (d.tx < 2 ^ 64) × IsTypedTable d.table) → IsText (draft_lines name draft)
 draft_text name None n h = empty_text

@@ -3,7 +3,7 @@ use Rattle.std.specs.Prelude.{ℕ, ◌<◌, ◌^◌, List, [], ◌∷◌, ◌++�
 use Rattle.std.specs.Int.{w64}
 use Rattle.std.specs.declared.option.Option.{Option}
 use Rattle.std.specs.declared.option.Option.TheVariants.{None, Some}
-use Rattle.std.specs.List.{join_with_byte, flat_map}
+use Rattle.std.specs.List.{flat_map}
 use Rattle.std.specs.Fmt.{decimal}
 use Rattle.cj_model.specs.declared.value.Value.{Value}
 use Rattle.cj_model.specs.declared.value.Value.TheVariants as value
@@ -12,15 +12,8 @@ use Rattle.cj_model.specs.declared.database.Draft.{Draft}
 use Rattle.cj_model.specs.declared.database.Slot.{Slot}
 use Rattle.cj_model.specs.Sql.Literals.{literal}
 use Rattle.cj_model.specs.Sql.Names.{IsNameOrEmpty, IsText}
+use Rattle.cj_cluster.specs.Script.Lines.{with_line_feed, words}
 use Rattle.cj_print.specs.Canonical.{separated}
-
--- the words, with one space between each two
-abbrev pub joined_words : List (List ℕ) → List ℕ
-joined_words = join_with_byte 32
-
--- the line with a line feed after it
-abbrev pub ended_line : List ℕ → List ℕ
-ended_line line = line ++ 10 ∷ []
 
 -- the literals of a row's values, with a comma and a space between each two
 abbrev pub table_row_text : List Value → List ℕ
@@ -28,19 +21,19 @@ table_row_text = separated literal
 
 -- the rows, one line each
 abbrev pub row_lines : List (List Value) → List ℕ
-row_lines = flat_map (λ row. ended_line (table_row_text row))
+row_lines = flat_map (λ row. with_line_feed (table_row_text row))
 
 -- the head line of a table: the names of backend and table, the table's state and its number of rows
 abbrev pub table_head : List ℕ → List ℕ → Table → List ℕ
-table_head name state t = joined_words (name ∷ t.schema.table ∷ state ∷ decimal (length t.rows) ∷ [])
+table_head name state t = words (name ∷ t.schema.table ∷ state ∷ decimal (length t.rows) ∷ [])
 
 -- the head line of a table, and its rows below it
 abbrev pub table_lines : List ℕ → List ℕ → Table → List ℕ
-table_lines name state t = ended_line (table_head name state t) ++ row_lines t.rows
+table_lines name state t = with_line_feed (table_head name state t) ++ row_lines t.rows
 
 -- the state of a draft: the word `draft` and its transaction
 abbrev pub draft_state : ℕ → List ℕ
-draft_state tx = joined_words (codes "draft" ∷ decimal tx ∷ [])
+draft_state tx = words (codes "draft" ∷ decimal tx ∷ [])
 
 -- the lines of a draft; no lines without one
 abbrev pub draft_lines : List ℕ → Option Draft → List ℕ

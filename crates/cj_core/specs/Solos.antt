@@ -1,10 +1,10 @@
 -- The desk of one session over a whole world: what contracts see of it, and where its calls lead.
-use Rattle.std.specs.Prelude.{◌≡◌, ℕ, Bool}
+use Rattle.std.specs.Prelude.{◌≡◌, ℕ, ◌+◌, Bool, []}
 use Rattle.cj_auth.specs.Admission.{admits}
 use Rattle.cj_cluster.specs.declared.moves.Move.{Move}
 use Rattle.cj_cluster.specs.declared.moves.Move.TheVariants.{Open, Close, Schedule, Abort, Apply, End, Read, Arm, Disable, Replay, Enable, Mark, Dump, Load}
 use Rattle.cj_cluster.specs.Moves.Cores.{session_at}
-use Rattle.cj_cluster.specs.Moves.Moves.{with_request_counted}
+use Rattle.cj_cluster.specs.Moves.Moves.{opened_for, with_request_counted}
 use Rattle.cj_cluster.specs.Moves.Runs.{seen_at}
 use Rattle.cj_desk.specs.DeskStates.{DeskState, DeskCall, DeskSteps, turn_taken, query_skipped, cache_counted}
 use Rattle.cj_state.specs.Worlds.{WorldState, accounts_of}
@@ -16,6 +16,10 @@ use Rattle.cj_calls.specs.CacheUse.{UsesCache}
 pub record SoloState : Type 0 where
   pub world : WorldState
   pub session : ℕ
+
+-- the session that is opened at a world
+abbrev pub session_opened : WorldState → SoloState
+session_opened w = record { world = with_core w (opened_for w.core []); session = w.core.greatest + 1 }
 
 -- what the session knows: it sees the whole history, and its reads need the position at which it was last answered
 abbrev pub desk_of : SoloState → DeskState

@@ -1,6 +1,6 @@
 //! The desk of one session, over a whole world.
 
-ghost use Rattle.std.specs.Prelude.{◌≡◌, ◌⊎◌, ◌+◌, ◌<◌, ◌≤◌, ℕ, List, [], length, false, true, IfErr, IfOk, IsErrOf, None};
+ghost use Rattle.std.specs.Prelude.{◌≡◌, ◌⊎◌, ◌<◌, ◌≤◌, ℕ, List, [], length, false, true, IfErr, IfOk, IsErrOf, None};
 ghost use Rattle.std.specs.Bool.{OnTrue};
 ghost use Rattle.cj_auth.specs.Admission.{admits};
 ghost use Rattle.cj_auth.specs.Kept.{IsUserName};
@@ -12,7 +12,7 @@ ghost use Rattle.cj_model.specs.declared.limits.TheConstants.{REQUEST_LIMIT, USE
 ghost use Rattle.cj_cluster.specs.History.Histories.{is_free};
 ghost use Rattle.cj_cluster.specs.Moves.Cores.{session_at};
 ghost use Rattle.cj_cluster.specs.Moves.Moves as moves;
-ghost use Rattle.cj_cluster.specs.Moves.Moves.{opened_for, closed_for, with_request_counted, MovesTo};
+ghost use Rattle.cj_cluster.specs.Moves.Moves.{closed_for, with_request_counted, MovesTo};
 ghost use Rattle.cj_desk.specs.DeskStates.{desk_tx, next_call, turn_taken, CanAskDesk};
 ghost use Rattle.cj_moves.specs.Armings.{HasArmings};
 ghost use Rattle.cj_moves.specs.Caches.{HasCacheAfter};
@@ -21,7 +21,7 @@ ghost use Rattle.cj_state.specs.Effects.{with_core};
 ghost use Rattle.cj_state.specs.Worlds.{accounts_of, CacheFollowsLog, IsSameWorldButLog};
 ghost use Rattle.cj_moves.specs.Logins.{HasLogins};
 ghost use Rattle.cj_calls.specs.WorldTurns.{call_of, StandsBetweenCalls, WorldTurn};
-ghost use Rattle.cj_core.specs.Solos.{desk_of, IsMoveOfNoSession, SoloSteps};
+ghost use Rattle.cj_core.specs.Solos.{desk_of, session_opened, IsMoveOfNoSession, SoloSteps};
 ghost use Rattle.cj_calls.specs.OwnEvents.{AddsEntry};
 ghost use Rattle.cj_calls.specs.Entries.{EndsStarving};
 ghost use Rattle.cj_calls.specs.CacheUse.{ReadsWithCache};
@@ -79,7 +79,7 @@ impl<B: Backend, S: Store> World<B, S> {
     /// memory.
     pub fn desk(self) -> Result<Solo<B, S>, (SessionsFull, World<B, S>)>
         requires { is_free self.core.history ≡ true }
-        ensures opened { IfOk result (λ solo. solo ≡ record { world = with_core self (opened_for self.core []); session = self.core.greatest + 1 }) }
+        ensures opened { IfOk result (λ solo. solo ≡ session_opened self) }
         ensures free { IfOk result (λ _. moves.has_no_number self.core ≡ false) }
         ensures full { IfErr result (λ (full, world). (moves.has_no_number self.core ≡ true) × (full.sessions ≡ length self.core.sessions) × (world ≡ self)) }
     {

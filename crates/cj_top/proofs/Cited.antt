@@ -12,7 +12,7 @@ pub use Rattle.cj_outside.specs.Draws.{generator_after, of_generator, seeded}
 pub use Rattle.cj_outside.specs.Memory.{State}
 pub use Rattle.cj_outside.specs.declared.sink.OutError.TheVariants.{Failed, NoMemory}
 pub use Rattle.cj_top.proofs.ArmedBackends.{backend_within, by_kinds, count_of, counted_within, within_all, within_more}
-pub use Rattle.cj_top.proofs.Common.{AreEmpty, BackendKind, BackendState, BeginsAsConfigured, FlakyState, Found, HaveBegunNone, IfErr, IfOk, Layout, MemoryState, OutError, PipeError, RefusesPipe, Register, RunsPipe, ServesSession, SessionEnd, Slot, StartError, StartsFrom, WorldState, client_state, faults_of, fresh_state, generator_of, never_armed, new_backend, new_of, opened_at, placement_of, solo_setting, state_by, status_of_listing, told_by}
+pub use Rattle.cj_top.proofs.Common.{AreEmpty, BackendKind, BackendState, BeginsAsConfigured, FlakyState, Found, HaveBegunNone, IfErr, IfOk, Layout, MemoryState, OutError, PipeError, RefusesPipe, Register, RunsPipe, ServesSession, SessionEnd, Slot, StartError, StartsFrom, WorldState, client_state, faults_of, fresh_state, generator_of, never_armed, new_backend, new_of, session_opened, placement_of, solo_setting, state_by, status_of_listing, told_by}
 pub use Rattle.cj_top.proofs.Completed.{command_completes, not_failed}
 pub use Rattle.cj_top.proofs.InputSessions.{session_answers}
 pub use Rattle.cj_cluster.proofs.Pushed.{prefix_self}

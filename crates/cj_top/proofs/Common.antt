@@ -4,6 +4,7 @@ pub use Rattle.cj_book.specs.declared.error.StartError.{StartError}
 pub use Rattle.cj_cluster.specs.declared.session.SessionEnd.{SessionEnd}
 pub use Rattle.cj_conf.specs.declared.backend.BackendKind.{BackendKind}
 pub use Rattle.cj_conf.specs.declared.conf.Conf.{Conf}
+pub use Rattle.cj_core.specs.Solos.{session_opened}
 pub use Rattle.cj_core.proofs.Common.{AreEmpty, BackendState, CellState, HaveBegunNone, Layout, StartsFrom, WorldState, faults_of, flat_map, placement_of, state_by}
 pub use Rattle.cj_session.proofs.Common.{WritesAll, client_state, most}
 pub use Rattle.cj_flaky.specs.FlakyBackends.{FlakyState, told_by}
@@ -18,7 +19,7 @@ pub use Rattle.cj_script.specs.declared.play.ScriptEnd.{ScriptEnd}
 pub use Rattle.cj_session.specs.Serving.{ServesSession}
 pub use Rattle.cj_top.specs.Configured.{BeginsAsConfigured, in_memory, new_backend, new_of}
 pub use Rattle.cj_top.specs.Logs.{Found}
-pub use Rattle.cj_top.specs.Piped.{RefusesPipe, RunsPipe, generator_of, opened_at, solo_setting}
+pub use Rattle.cj_top.specs.Piped.{RefusesPipe, RunsPipe, generator_of, solo_setting}
 pub use Rattle.cj_top.specs.Program.{status_of_listing}
 pub use Rattle.cj_top.specs.Scripted.{PlaysAsConfigured}
 pub use Rattle.cj_top.specs.declared.piped.PipeError.{PipeError}

@@ -8,7 +8,7 @@ use Rattle.cj_cluster.specs.declared.event.Event.TheVariants.{Enabled, Ended, Sc
 use Rattle.cj_cluster.specs.History.Histories.{log}
 use Rattle.cj_cluster.proofs.Growth.{runs_grow}
 use Rattle.cj_cluster.proofs.Pushed.{prefix_self, prefix_trans}
-use Rattle.cj_core.specs.Solos.{desk_of}
+use Rattle.cj_core.specs.Solos.{desk_of, session_opened}
 use Rattle.cj_start.specs.Started.{AbortsEach, with_abort}
 use Rattle.cj_desk.proofs.ChainEntries.{stands_over}
 use Rattle.cj_log.specs.Logs.{KeepsItems}
@@ -17,7 +17,7 @@ use Rattle.cj_recovery.specs.Openings.{items_behind, items_of}
 use Rattle.cj_recovery.proofs.Longer.{items_append}
 use Rattle.cj_script.specs.Script.{InTurns, given_in, moves_in}
 use Rattle.cj_top.specs.Logs.{Found}
-use Rattle.cj_top.specs.Piped.{ServesOneSession, opened_at}
+use Rattle.cj_top.specs.Piped.{ServesOneSession}
 
 -- a longer history has the items of its beginning before its others
 items_longer : (f h : List Event) → IsPrefix f h → IsPrefix (items_of f) (items_of h)
@@ -32,7 +32,7 @@ aborts_longer h (tx ∷ txs) z (failed, rest) = prefix_trans h (with_abort h tx 
 pub session_longer : (tells : Bool) (seed : ℕ) (moment : Option ℤ) (left left' held held' : Option (List ℕ)) (first last : WorldState) (ending : SessionEnd) → ServesOneSession tells seed moment left left' held held' first ending last
     → IsPrefix first.core.history last.core.history
 session_longer tells seed moment left left' held held' first last ending s =
-    subst (λ (w : WorldState). IsPrefix first.core.history w.core.history) (sym s.closed) (stands_over tells (desk_of (opened_at first)) (desk_of s.desk) s.turns).longer
+    subst (λ (w : WorldState). IsPrefix first.core.history w.core.history) (sym s.closed) (stands_over tells (desk_of (session_opened first)) (desk_of s.desk) s.turns).longer
 
 -- over a script
 pub script_longer : (tells : Bool) (names : List (List ℕ)) (left left' held held' : Option (List ℕ)) (first last : WorldState) → InTurns tells names left left' held held' first last → IsPrefix first.core.history last.core.history

@@ -5,12 +5,12 @@ use Rattle.std.specs.declared.option.Option.TheVariants.{None}
 use Rattle.rand_pcg.specs.Lcg.{Lcg}
 use Rattle.cj_outside.specs.Draws.{seeded, of_generator, generator_after}
 use Rattle.cj_cluster.specs.declared.session.SessionEnd.{SessionEnd}
-use Rattle.cj_cluster.specs.Moves.Moves.{opened_for, closed_for}
+use Rattle.cj_cluster.specs.Moves.Moves.{closed_for}
 use Rattle.cj_conf.specs.declared.conf.Conf.{Conf}
 use Rattle.cj_state.specs.Faults.{faults_of}
 use Rattle.cj_state.specs.Effects.{with_core}
 use Rattle.cj_core.specs.QuietCalls.{BlamesNobody, BlamesNoStore, CanCountMore}
-use Rattle.cj_core.specs.Solos.{SoloState, SoloSteps, desk_of}
+use Rattle.cj_core.specs.Solos.{SoloState, SoloSteps, desk_of, session_opened}
 use Rattle.cj_state.specs.Worlds.{WorldState}
 use Rattle.cj_desk.specs.DeskChains.{IsDeskChain}
 use Rattle.cj_desk.specs.SessionTranscripts.{SessionSetting, setting, client_state}
@@ -31,10 +31,6 @@ use Rattle.cj_top.specs.Program.{status_of_session}
 abbrev pub solo_setting : Bool → Option ℤ → SessionSetting SoloState Lcg
 solo_setting tells moment = setting desk_of (SoloSteps tells) of_generator (λ generator n. generator_after generator) moment
 
--- the session that is opened at this world
-abbrev pub opened_at : WorldState → SoloState
-opened_at w = record { world = with_core w (opened_for w.core []); session = w.core.greatest + 1 }
-
 -- the generator of a session, by the seed of the configuration and the session's number
 abbrev pub generator_of : ℕ → ℕ → Lcg
 generator_of seed session = seeded ((seed + session) % 2 ^ 64)
@@ -44,9 +40,9 @@ pub record ServesOneSession (tells : Bool) (seed : ℕ) (moment : Option ℤ) (l
   pub desk : SoloState
   pub draws : Lcg
   -- what was written is the transcript of what was taken, in which each request leads the world as `SoloSteps` says
-  pub served : ServesSession (solo_setting tells moment) left left' held held' (client_state None (opened_at first) (generator_of seed (first.core.greatest + 1))) ending desk draws
+  pub served : ServesSession (solo_setting tells moment) left left' held held' (client_state None (session_opened first) (generator_of seed (first.core.greatest + 1))) ending desk draws
   -- its calls are a chain of turns: each reply is that of one database run on the history that the world has then
-  pub turns : IsDeskChain tells (desk_of (opened_at first)) (desk_of desk)
+  pub turns : IsDeskChain tells (desk_of (session_opened first)) (desk_of desk)
   -- where the backends have counted no fault, no reply says that backends failed
   pub blameless : sum (faults_of last.cells) ≡ sum (faults_of first.cells) → CanCountMore (faults_of first.cells) → All BlamesNobody served.transcript.replies
   -- where the log's store has counted no fault, no reply says that it failed

@@ -8,10 +8,10 @@ use Rattle.cj_backend.specs.Backends.{Arming}
 use Rattle.cj_state.specs.ArmedCells.{armings_of}
 use Rattle.cj_state.specs.Faults.{faults_of}
 use Rattle.cj_state.specs.Worlds.{WorldState}
-use Rattle.cj_core.specs.Solos.{SoloState}
+use Rattle.cj_core.specs.Solos.{SoloState, session_opened}
 use Rattle.cj_workload.specs.declared.summary.Summary.{Summary}
 use Rattle.cj_workload.specs.Holdings.{row_count, rows_in, times_armed}
-use Rattle.cj_workload.specs.Workloads.{BeginsWorkload, PlaysRounds, first_host, session_opened}
+use Rattle.cj_workload.specs.Workloads.{BeginsWorkload, PlaysRounds, first_host}
 
 -- ---- the history
 

@@ -16,10 +16,8 @@ use Rattle.cj_cluster.specs.declared.moves.Move.TheVariants.{Arm, Disable, Repla
 use Rattle.cj_cluster.specs.declared.moves.Moved.TheVariants as moved
 use Rattle.cj_cluster.specs.declared.moves.MoveError.TheVariants.{NoMemory}
 use Rattle.cj_cluster.specs.Moves.Cores.{position_at}
-use Rattle.cj_cluster.specs.Moves.Moves.{MoveResult, last_number, opened_for}
+use Rattle.cj_cluster.specs.Moves.Moves.{MoveResult, last_number}
 use Rattle.cj_desk.specs.DeskStates.{next_call, turn_taken}
-use Rattle.cj_state.specs.Worlds.{WorldState}
-use Rattle.cj_state.specs.Effects.{with_core}
 use Rattle.cj_core.specs.Played.{MovesWorld}
 use Rattle.cj_calls.specs.Entries.{EndsStarving}
 use Rattle.cj_core.specs.Solos.{SoloState, SoloSteps, desk_of}
@@ -147,7 +145,3 @@ module _ (tells armable : Bool) where
   abbrev pub PlaysRounds : (seed n : ℕ) → SoloState → SoloState → Type 0
   PlaysRounds seed zero a z = z ≡ a
   PlaysRounds seed (suc n) a z = (m : SoloState) × PlaysRounds seed n a m × PlaysRound (suc n) (next_statement seed n) m z
-
--- the session that is opened at a world
-abbrev pub session_opened : WorldState → SoloState
-session_opened w = record { world = with_core w (opened_for w.core []); session = w.core.greatest + 1 }

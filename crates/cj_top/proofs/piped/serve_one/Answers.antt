@@ -1,5 +1,5 @@
 use Rattle.std.proofs.Common.{◌≡◌, ◌+◌, ◌%◌, ◌^◌, ◌≤◌, ℕ, None, get_or, sum, ap, sym, ◌∙◌, subst, arith}
-use Rattle.cj_top.proofs.Cited.{IsLogOf, Lcg, ServesSession, SoloState, WorldState, client_state, desk_of, desk_tx, faults_of, generator_after, generator_of, log, of_generator, opened_at, quiet_log_session, quiet_session, seeded, session_answers, session_grows, solo_setting, transcript_chained, tx_of_unknown}
+use Rattle.cj_top.proofs.Cited.{IsLogOf, Lcg, ServesSession, SoloState, WorldState, client_state, desk_of, desk_tx, faults_of, generator_after, generator_of, log, of_generator, session_opened, quiet_log_session, quiet_session, seeded, session_answers, session_grows, solo_setting, transcript_chained, tx_of_unknown}
 use Rattle.cj_top.proofs.piped.serve_one.Goals as goal
 
 pub serve_session-end-requires-clause-closed : goal.serve_session-end-requires-clause-closed
@@ -22,7 +22,7 @@ returns-clause-serves g c =
     c.in-Ok.ensures.opened end.ensures.served
     in
     let served =
-    subst (λ (d : Lcg). ServesSession (solo_setting tells moment) (g.I.Source.left c.args.input.now) (g.I.Source.left end.new.input) (g.O.Sink.held c.args.output.now) (g.O.Sink.held end.new.output) (client_state None (opened_at c.args.world) d) end.result end.new.desk end.new.draw)
+    subst (λ (d : Lcg). ServesSession (solo_setting tells moment) (g.I.Source.left c.args.input.now) (g.I.Source.left end.new.input) (g.O.Sink.held c.args.output.now) (g.O.Sink.held end.new.output) (client_state None (session_opened c.args.world) d) end.result end.new.desk end.new.draw)
     draw from_desk
     in
     record {
@@ -30,25 +30,25 @@ returns-clause-serves g c =
       draws = end.new.draw;
       served = served;
       turns =
-          transcript_chained (solo_setting tells moment) tells (λ a x z h. h.0) (client_state None (opened_at c.args.world) (generator_of c.args.seed (c.args.world.core.greatest + 1))) served.taken served.written end.result
+          transcript_chained (solo_setting tells moment) tells (λ a x z h. h.0) (client_state None (session_opened c.args.world) (generator_of c.args.seed (c.args.world.core.greatest + 1))) served.taken served.written end.result
           end.new.desk end.new.draw served.transcript;
       blameless =
           λ same small.
-          quiet_session tells of_generator (λ generator n. generator_after generator) moment (client_state None (opened_at c.args.world) (generator_of c.args.seed (c.args.world.core.greatest + 1))) served.taken
+          quiet_session tells of_generator (λ generator n. generator_after generator) moment (client_state None (session_opened c.args.world) (generator_of c.args.seed (c.args.world.core.greatest + 1))) served.taken
           served.written end.result end.new.desk end.new.draw served.transcript (sym (ap (λ (w : WorldState). sum (faults_of w.cells)) c.close.ensures) ∙ same) small;
       stored =
           λ same small.
-          quiet_log_session tells of_generator (λ generator n. generator_after generator) moment (client_state None (opened_at c.args.world) (generator_of c.args.seed (c.args.world.core.greatest + 1))) served.taken
+          quiet_log_session tells of_generator (λ generator n. generator_after generator) moment (client_state None (session_opened c.args.world) (generator_of c.args.seed (c.args.world.core.greatest + 1))) served.taken
           served.written end.result end.new.desk end.new.draw served.transcript (sym (ap (λ (w : WorldState). w.recovery_log.faults) c.close.ensures) ∙ same) small;
       whole =
           λ by.
-          session_answers (solo_setting tells moment) (client_state None (opened_at c.args.world) (generator_of c.args.seed (c.args.world.core.greatest + 1))) end.result end.new.desk end.new.draw (g.I.Source.left c.args.input.now)
+          session_answers (solo_setting tells moment) (client_state None (session_opened c.args.world) (generator_of c.args.seed (c.args.world.core.greatest + 1))) end.result end.new.desk end.new.draw (g.I.Source.left c.args.input.now)
           (g.I.Source.left end.new.input) (g.O.Sink.held c.args.output.now) (g.O.Sink.held end.new.output) served by;
       closed = c.close.ensures;
       grown =
           λ small k.
           subst (λ (w : WorldState). get_or (faults_of c.args.world.cells) k 0 ≤ get_or (faults_of w.cells) k 0) (sym c.close.ensures)
-          (session_grows tells of_generator (λ generator n. generator_after generator) moment (client_state None (opened_at c.args.world) (generator_of c.args.seed (c.args.world.core.greatest + 1))) served.taken
+          (session_grows tells of_generator (λ generator n. generator_after generator) moment (client_state None (session_opened c.args.world) (generator_of c.args.seed (c.args.world.core.greatest + 1))) served.taken
           served.written end.result end.new.desk end.new.draw served.transcript small k);
     }
 
