@@ -9,6 +9,6 @@ pub keep-requires-clause-right : goal.keep-requires-clause-right
 keep-requires-clause-right g c = λ on.
     let entries = log (front c.args.pass.now.seat) in
     let outside = c.in-Some.ensures.outside in
-    let copy = c.in-Some-2.ensures in
+    let copy = c.in-Some-copy_for_cache.ensures in
     let says = c.requires.gives.1.says (sym c.args.locks.now.told ∙ on) c.requires.hosts in
-    copy.1 ∙ (says ∙ (ap (λ k. ask (database_after entries c.args.at) k c.args.query.now.select.now) outside ∙ (ap (λ (s : Select). ask (database_after entries c.args.at) 0 s) (sym copy.0) ∙ ap (λ k. ask (database_after entries k) 0 c.in-Some-2.copy.select) (sym copy.2))))
+    copy.1 ∙ (says ∙ (ap (λ k. ask (database_after entries c.args.at) k c.args.query.now.select.now) outside ∙ (ap (λ (s : Select). ask (database_after entries c.args.at) 0 s) (sym copy.0) ∙ ap (λ k. ask (database_after entries k) 0 c.in-Some-copy_for_cache.copy.select) (sym copy.2))))
