@@ -1,6 +1,6 @@
 //! Clusters over two backends: how they start.
 
-ghost use Rattle.std.specs.Prelude.{◌≡◌, ◌≤◌, true, [], length, vec_capacity, IfOk};
+ghost use Rattle.std.specs.Prelude.{◌≡◌, ◌≤◌, true, [], length, vec_capacity, IfOk, IfSome};
 ghost use Rattle.cj_model.specs.declared.limits.TheConstants.{BACKEND_LIMIT};
 ghost use Rattle.cj_outside.specs.Memory.{State};
 ghost use Rattle.cj_board.specs.Seats.{board_id, pass_board};
@@ -106,12 +106,15 @@ fn play_at<J: Naming, R: Wait + Abort>(
 pub fn play<R: Wait + Abort>(
     rt: &R,
     alloc: Global,
-    placement: Placement,
+    placement: Option<Placement>,
     faults: Faults,
     steps: &[Step<'_>],
 ) -> Result<(), NoMemory>
-    requires two { length placement.names ≡ 2 }
+    requires two { IfSome placement (λ placement. length placement.names ≡ 2) }
 {
+    let Some(placement) = placement else {
+        panic!(rt; "no placement")
+    };
     let setup = Setup {
         placement,
         cache: 64,
@@ -120,7 +123,9 @@ pub fn play<R: Wait + Abort>(
     };
     let one = backend(alloc, 0)?;
     let other = backend(alloc, faults.backend)?;
-    let shared = started(rt, alloc, setup, one, other)?;
+    let Some(shared) = started(alloc, setup, one, other) else {
+        panic!(rt; "the world does not start")
+    };
     let shelf = shelf(rt, alloc, faults.shelf)?;
     play_at::<Brand, R>(rt, alloc, shared, Blank::new(1), shelf, steps)
 }

@@ -39,7 +39,7 @@ b1 disabled position=2 asks=0 begun=0 faults=0 login=l1\n";
         ("show backends", backends),
     ];
     let steps = [Step::Session(&[CREATE, INSERT]), Step::Rows(&rows)];
-    play(&rt, alloc, replicated(&rt, alloc)?, NO_FAULTS, &steps)?;
+    play(&rt, alloc, replicated(alloc), NO_FAULTS, &steps)?;
     Ok(())
 }
 
@@ -66,7 +66,7 @@ marker d after 2 backend=b1\nmarker c after 2 backend=-\n",
         ("audit", "b0 t base 1\n1\nb1 t base 1\n1\n"),
     ];
     let steps = [Step::Session(&[CREATE, INSERT]), Step::Rows(&rows)];
-    play(&rt, alloc, replicated(&rt, alloc)?, NO_FAULTS, &steps)?;
+    play(&rt, alloc, replicated(alloc), NO_FAULTS, &steps)?;
     Ok(())
 }
 
@@ -80,7 +80,7 @@ fn a_refusal_names_the_table(rt: HostRuntime) -> Result<(), Fail> {
     ];
     let requests = [CREATE, "CREATE TABLE u (k INTEGER PRIMARY KEY)"];
     let steps = [Step::Session(&requests), Step::Rows(&rows)];
-    play(&rt, alloc, partial(&rt, alloc, "b1")?, NO_FAULTS, &steps)?;
+    play(&rt, alloc, partial(alloc, "b1"), NO_FAULTS, &steps)?;
     Ok(())
 }
 
@@ -97,6 +97,6 @@ fn an_orphan_is_ended_once(rt: HostRuntime) -> Result<(), Fail> {
         ("audit", "b0 t base 0\nb1 t base 0\n"),
     ];
     let steps = [Step::Session(&[CREATE, "BEGIN", INSERT]), Step::Rows(&rows)];
-    play(&rt, alloc, replicated(&rt, alloc)?, NO_FAULTS, &steps)?;
+    play(&rt, alloc, replicated(alloc), NO_FAULTS, &steps)?;
     Ok(())
 }

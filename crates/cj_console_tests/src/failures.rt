@@ -32,7 +32,7 @@ b1 out position=- asks=0 begun=0 faults=1 login=l1\n";
         Step::Rows(&rows),
     ];
     let faults = backend_fails(3);
-    play(&rt, alloc, replicated(&rt, alloc)?, faults, &steps)?;
+    play(&rt, alloc, replicated(alloc), faults, &steps)?;
     Ok(())
 }
 
@@ -52,7 +52,7 @@ fn a_dump_has_each_table_of_the_backend(rt: HostRuntime) -> Result<(), Fail> {
         Step::Rows(&rows),
     ];
     let faults = backend_fails(3);
-    play(&rt, alloc, partial(&rt, alloc, "b1")?, faults, &steps)?;
+    play(&rt, alloc, partial(alloc, "b1"), faults, &steps)?;
     Ok(())
 }
 
@@ -72,7 +72,7 @@ fn a_backend_that_fails_on_its_way_back_is_out(rt: HostRuntime) -> Result<(), Fa
         Step::Rows(&rows),
     ];
     let faults = backend_fails(2);
-    play(&rt, alloc, replicated(&rt, alloc)?, faults, &steps)?;
+    play(&rt, alloc, replicated(alloc), faults, &steps)?;
     Ok(())
 }
 
@@ -86,7 +86,7 @@ fn a_backend_that_fails_when_it_is_dumped_stays_disabled(rt: HostRuntime) -> Res
         ("enable b1 d", "refused Dump\n"),
     ];
     let faults = backend_fails(1);
-    let placement = replicated(&rt, alloc)?;
+    let placement = replicated(alloc);
     play(&rt, alloc, placement, faults, &[Step::Rows(&rows)])?;
     Ok(())
 }
@@ -96,7 +96,7 @@ fn an_audit_names_the_number_of_a_backend_that_fails(rt: HostRuntime) -> Result<
     let alloc = rt.alloc();
     let rows: [Row<'_>; 2] = [("audit", "refused Fault 1\n"), ("audit", "")];
     let faults = backend_fails(1);
-    let placement = replicated(&rt, alloc)?;
+    let placement = replicated(alloc);
     play(&rt, alloc, placement, faults, &[Step::Rows(&rows)])?;
     Ok(())
 }
@@ -116,7 +116,7 @@ fn a_dump_that_is_not_stored_keeps_its_name_in_the_log(rt: HostRuntime) -> Resul
         shelf: 4,
         ..NO_FAULTS
     };
-    let placement = replicated(&rt, alloc)?;
+    let placement = replicated(alloc);
     play(&rt, alloc, placement, faults, &[Step::Rows(&rows)])?;
     Ok(())
 }
@@ -135,7 +135,7 @@ fn a_dump_that_is_not_read_leaves_the_backend(rt: HostRuntime) -> Result<(), Fai
         shelf: 8,
         ..NO_FAULTS
     };
-    let placement = replicated(&rt, alloc)?;
+    let placement = replicated(alloc);
     play(&rt, alloc, placement, faults, &[Step::Rows(&rows)])?;
     Ok(())
 }
@@ -153,14 +153,14 @@ fn no_marker_is_set_while_the_log_fails(rt: HostRuntime) -> Result<(), Fail> {
         ("backup b1 d", "ok 0\n"),
         ("show log 0 1", "marker d after 0 backend=b1\n"),
     ];
-    let placement = replicated(&rt, alloc)?;
+    let placement = replicated(alloc);
     play(&rt, alloc, placement, faults, &[Step::Rows(&backups)])?;
     let checkpoints: [Row<'_>; 3] = [
         ("checkpoint c", "refused LogFault\n"),
         ("checkpoint c", "ok 0\n"),
         ("show log 0 1", "marker c after 0 backend=-\n"),
     ];
-    let placement = replicated(&rt, alloc)?;
+    let placement = replicated(alloc);
     play(&rt, alloc, placement, faults, &[Step::Rows(&checkpoints)])?;
     Ok(())
 }

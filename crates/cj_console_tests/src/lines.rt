@@ -61,7 +61,7 @@ fn a_line_that_is_no_command_changes_nothing(rt: HostRuntime) -> Result<(), Fail
         ("show log 0 18446744073709551615", ""),
     ];
     let steps = [Step::Rows(&rows), Step::Rows(&unknown)];
-    play(&rt, alloc, replicated(&rt, alloc)?, NO_FAULTS, &steps)?;
+    play(&rt, alloc, replicated(alloc), NO_FAULTS, &steps)?;
     Ok(())
 }
 
@@ -83,7 +83,7 @@ fn bytes_that_are_no_text_and_long_lines_are_no_commands(rt: HostRuntime) -> Res
             ..ALL_TAKEN
         }),
     ];
-    play(&rt, alloc, replicated(&rt, alloc)?, NO_FAULTS, &steps)?;
+    play(&rt, alloc, replicated(alloc), NO_FAULTS, &steps)?;
     Ok(())
 }
 
@@ -116,7 +116,7 @@ fn a_console_ends_with_its_source_or_at_quit(rt: HostRuntime) -> Result<(), Fail
             ..ALL_TAKEN
         }),
     ];
-    play(&rt, alloc, replicated(&rt, alloc)?, NO_FAULTS, &steps)?;
+    play(&rt, alloc, replicated(alloc), NO_FAULTS, &steps)?;
     Ok(())
 }
 
@@ -145,6 +145,6 @@ fn a_stream_that_fails_ends_the_console(rt: HostRuntime) -> Result<(), Fail> {
             ("checkpoint g", "ok 0\n"),
         ]),
     ];
-    play(&rt, alloc, replicated(&rt, alloc)?, NO_FAULTS, &steps)?;
+    play(&rt, alloc, replicated(alloc), NO_FAULTS, &steps)?;
     Ok(())
 }

@@ -21,7 +21,10 @@ pub fn request_all<R: Abort, K: Desk<R>>(
     assert!(rt; texts.len() < 100);
     let mut tx = 0;
     for text in texts {
-        tx = request(rt, alloc, desk, tx, text)?;
+        let Some(later) = request(rt, alloc, desk, tx, text) else {
+            panic!(rt; "{text}")
+        };
+        tx = later;
     }
     Ok(())
 }

@@ -56,12 +56,17 @@ pub fn play<B: Backend + Drop, R: Wait + Abort>(
     requires empty { B.tells ≡ true → (B.told one ≡ Some []) × (B.told other ≡ Some []) }
     requires none { (B.begun one ≡ []) × (B.begun other ≡ []) }
 {
+    let Some(placement) = replicated(alloc) else {
+        panic!(rt; "no placement")
+    };
     let setup = Setup {
-        placement: replicated(rt, alloc)?,
+        placement,
         cache: 0,
         log: Vec::new(alloc),
         log_fails,
     };
-    let shared = started(rt, alloc, setup, one, other)?;
+    let Some(shared) = started(alloc, setup, one, other) else {
+        panic!(rt; "the world does not start")
+    };
     play_at::<Brand, B, R>(rt, alloc, shared, Blank::new(1), steps)
 }

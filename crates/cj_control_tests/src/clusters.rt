@@ -65,13 +65,18 @@ where
     requires empty { B.tells ≡ true → (B.told one ≡ Some []) × (B.told other ≡ Some []) }
     requires none { (B.begun one ≡ []) × (B.begun other ≡ []) }
 {
+    let Some(placement) = replicated(alloc) else {
+        panic!(rt; "no placement")
+    };
     let setup = Setup {
-        placement: replicated(rt, alloc)?,
+        placement,
         cache,
         log: Vec::new(alloc),
         log_fails,
     };
-    let shared = started(rt, alloc, setup, one, other)?;
+    let Some(shared) = started(alloc, setup, one, other) else {
+        panic!(rt; "the world does not start")
+    };
     play_at::<Brand, B, R>(rt, alloc, shared, Blank::new(1), steps)
 }
 

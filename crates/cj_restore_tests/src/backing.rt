@@ -35,7 +35,7 @@ fn a_name_is_given_once(rt: HostRuntime) -> Result<(), Fail> {
         Step::Backup(1, "d", NAME_TAKEN),
         Step::Backup(1, "e", Ok(1)),
     ];
-    let placement = replicated(&rt, alloc)?;
+    let placement = replicated(alloc);
     play(&rt, alloc, placement, one, other, Vec::new(alloc), &steps)?;
     Ok(())
 }
@@ -53,7 +53,7 @@ fn each_table_keeps_an_enabled_host(rt: HostRuntime) -> Result<(), Fail> {
         Step::Reenable(1, Ok(1)),
         Step::Backup(0, "d", Ok(1)),
     ];
-    let placement = replicated(&rt, alloc)?;
+    let placement = replicated(alloc);
     play(&rt, alloc, placement, one, other, Vec::new(alloc), &steps)?;
     Ok(())
 }
@@ -81,7 +81,7 @@ fn a_backup_that_fails_leaves_the_backend_disabled(rt: HostRuntime) -> Result<()
         let fails = Vec::from_array(alloc, [2])?;
         let other = backend(alloc, fails, Flags::raised(alloc)?);
         let shelf_fails = Vec::from_array(alloc, [call])?;
-        let placement = replicated(&rt, alloc)?;
+        let placement = replicated(alloc);
         play(&rt, alloc, placement, one, other, shelf_fails, &steps)?;
     }
     Ok(())

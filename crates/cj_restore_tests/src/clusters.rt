@@ -1,6 +1,6 @@
 //! Clusters over two backends: how they start.
 
-ghost use Rattle.std.specs.Prelude.{◌≡◌, ◌≤◌, true, [], length, vec_capacity, Some};
+ghost use Rattle.std.specs.Prelude.{◌≡◌, ◌≤◌, true, [], length, vec_capacity, IfSome, Some};
 ghost use Rattle.cj_model.specs.declared.limits.TheConstants.{BACKEND_LIMIT};
 ghost use Rattle.cj_outside.specs.Memory.{State};
 ghost use Rattle.cj_board.specs.Seats.{board_id, pass_board};
@@ -80,7 +80,7 @@ where
 pub fn play<B: Backend + Drop + Send, R: Threads + Wait + Abort + Sync>(
     rt: &R,
     alloc: Global,
-    placement: Placement,
+    placement: Option<Placement>,
     one: B,
     other: B,
     shelf_fails: Vec<u64>,
@@ -88,16 +88,21 @@ pub fn play<B: Backend + Drop + Send, R: Threads + Wait + Abort + Sync>(
 ) -> Result<(), NoMemory>
 where
     B::Snap: Send,
-    requires two { length placement.names ≡ 2 }
+    requires two { IfSome placement (λ placement. length placement.names ≡ 2) }
     requires empty { B.tells ≡ true → (B.told one ≡ Some []) × (B.told other ≡ Some []) }
     requires none { (B.begun one ≡ []) × (B.begun other ≡ []) }
 {
+    let Some(placement) = placement else {
+        panic!(rt; "no placement")
+    };
     let setup = Setup {
         placement,
         cache: 64,
         log: Vec::new(alloc),
         log_fails: Vec::new(alloc),
     };
-    let shared = started(rt, alloc, setup, one, other)?;
+    let Some(shared) = started(alloc, setup, one, other) else {
+        panic!(rt; "the world does not start")
+    };
     play_at::<Brand, B, R>(rt, alloc, shared, Blank::new(1), shelf_fails, steps)
 }

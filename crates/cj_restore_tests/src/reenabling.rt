@@ -42,7 +42,7 @@ fn a_disabled_backend_takes_what_it_missed(rt: HostRuntime) -> Result<(), Fail> 
         Step::Reenable(1, ALREADY_ENABLED),
         Step::Audit(BOTH_ALIKE),
     ];
-    let placement = replicated(&rt, alloc)?;
+    let placement = replicated(alloc);
     play(&rt, alloc, placement, one, other, Vec::new(alloc), &steps)?;
     Ok(())
 }
@@ -65,7 +65,7 @@ fn a_backend_that_is_out_loads_the_dump_of_another(rt: HostRuntime) -> Result<()
         Step::ReenableBy(1, "d", ALREADY_ENABLED),
         Step::Audit(BOTH_ALIKE),
     ];
-    let placement = replicated(&rt, alloc)?;
+    let placement = replicated(alloc);
     play(&rt, alloc, placement, one, other, Vec::new(alloc), &steps)?;
     Ok(())
 }
@@ -89,7 +89,7 @@ fn a_backend_that_fails_on_its_way_back_comes_back_again(rt: HostRuntime) -> Res
         let one = backend(alloc, Vec::new(alloc), Flags::raised(alloc)?);
         let fails = Vec::from_array(alloc, [3, call])?;
         let other = backend(alloc, fails, Flags::raised(alloc)?);
-        let placement = replicated(&rt, alloc)?;
+        let placement = replicated(alloc);
         play(&rt, alloc, placement, one, other, Vec::new(alloc), &steps)?;
     }
     Ok(())
@@ -113,7 +113,7 @@ fn a_dump_has_each_table_of_the_backend(rt: HostRuntime) -> Result<(), Fail> {
         Step::Reenable(0, NEEDS_DUMP),
         Step::Audit(b"b1 t base 1\n1\n"),
     ];
-    let placement = partial(&rt, alloc, "b0")?;
+    let placement = partial(alloc, "b0");
     play(&rt, alloc, placement, one, other, Vec::new(alloc), &steps)?;
     Ok(())
 }
@@ -137,7 +137,7 @@ fn a_dump_keeps_drafts(rt: HostRuntime) -> Result<(), Fail> {
         Step::Ask("COMMIT"),
         Step::Audit(BOTH_ALIKE),
     ];
-    let placement = replicated(&rt, alloc)?;
+    let placement = replicated(alloc);
     play(&rt, alloc, placement, one, other, Vec::new(alloc), &steps)?;
     Ok(())
 }
@@ -156,7 +156,7 @@ fn a_session_is_answered_while_a_backend_takes_the_log(rt: HostRuntime) -> Resul
         Step::ReenableBeside(1, &flags, SECOND_ROW, 3),
         Step::Audit(BOTH_ALIKE),
     ];
-    let placement = replicated(&rt, alloc)?;
+    let placement = replicated(alloc);
     play(&rt, alloc, placement, one, other, Vec::new(alloc), &steps)?;
     assert!(rt; !flags.is_missed());
     Ok(())

@@ -188,7 +188,7 @@ fn ask_meanwhile<J: Naming, B: Backend + Drop, R: Wait + Abort>(
         panic!(rt; "no session")
     };
     flags.wait_for_write();
-    request(rt, alloc, &mut caller, 0, text)?;
+    assert!(rt; request(rt, alloc, &mut caller, 0, text).is_some());
     flags.answer();
     Ok(())
 }
@@ -298,7 +298,10 @@ where
     ensures counted { OnOk result ((K.state_of desk.new).requests ≤ (K.state_of desk.old).requests + 1) }
 {
     if let Step::Ask(text) = step {
-        return request(rt, alloc, desk, tx, text);
+        let Some(later) = request(rt, alloc, desk, tx, text) else {
+            panic!(rt; "{text}")
+        };
+        return Ok(later);
     }
     administer(rt, alloc, control, pass, shelf, step)?;
     Ok(tx)

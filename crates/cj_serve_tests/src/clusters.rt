@@ -80,13 +80,18 @@ pub fn serve_at_new<R: Threads + Wait + Abort + Copy + Drop + Send + 'static, P:
     threads: usize,
     connections: u64,
 ) -> Result<ServeEnd, NoMemory> {
+    let Some(placement) = replicated(alloc) else {
+        panic!(rt; "no placement")
+    };
     let setup = Setup {
-        placement: replicated(rt, alloc)?,
+        placement,
         cache: 64,
         log,
         log_fails: Vec::new(alloc),
     };
     let (one, other) = (MemBackend::new(alloc), MemBackend::new(alloc));
-    let shared = started(rt, alloc, setup, one, other)?;
+    let Some(shared) = started(alloc, setup, one, other) else {
+        panic!(rt; "the world does not start")
+    };
     serve_at::<Brand, R, P>(rt, alloc, shared, Blank::new(1), port, threads, connections)
 }

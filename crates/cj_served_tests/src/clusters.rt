@@ -58,6 +58,12 @@ pub fn serve_new<
         threads,
         connections,
     } = setting;
+    let Some(placement) = replicated(alloc) else {
+        panic!(rt; "no placement")
+    };
+    let Some(parts) = parts(alloc, placement, 64) else {
+        panic!(rt; "no parts")
+    };
     let mut backends = Backends::new(alloc);
     backends.push(backend(alloc))?;
     backends.push(backend(alloc))?;
@@ -66,7 +72,7 @@ pub fn serve_new<
     Ok(serve_over(
         rt,
         alloc,
-        parts(rt, alloc, replicated(rt, alloc)?, 64)?,
+        parts,
         MemStore::new(log, Vec::new(alloc)),
         MemStore::new(dumps, Vec::new(alloc)),
         backends,

@@ -2,7 +2,7 @@
 //! connections in memory.
 //!
 //! `started` promises the parts of a world that has started, of which a test makes its cluster. `request` promises the
-//! transaction that a session has then. What cannot be in a test that is right is a panic.
+//! transaction that a session has then. What does not come to pass is None, at which a test fails.
 //! To change: a setting that several test crates need goes into `Setup`, a kind of request into `requests.rt`.
 //! The one proof is in `proofs/Transactions`.
 #![tactic(auto)]
