@@ -175,7 +175,8 @@ fn come_back_by<J: Naming, B: Backend + Drop, R: Wait + Abort>(
     reenable(rt, control, pass, b, Some(dump))
 }
 
-/// Has a new session make a request once a backend's first write came, and tells that it was answered.
+/// Has a new session make a request once a backend's first write came, and tells that it was answered. Returns whether
+/// it was done.
 fn ask_meanwhile<J: Naming, B: Backend + Drop, R: Wait + Abort>(
     rt: &R,
     alloc: Global,
@@ -183,14 +184,14 @@ fn ask_meanwhile<J: Naming, B: Backend + Drop, R: Wait + Abort>(
     pass: &mut Pass<J>,
     flags: &Flags,
     text: &str,
-) -> Result<(), NoMemory> {
+) -> bool {
     let Ok(mut caller) = control.caller(rt, pass) else {
         panic!(rt; "no session")
     };
     flags.wait_for_write();
-    assert!(rt; request(rt, alloc, &mut caller, 0, text).is_some());
+    let done = request(rt, alloc, &mut caller, 0, text).is_some();
     flags.answer();
-    Ok(())
+    done
 }
 
 /// Has a backend come back in one thread, while a new session makes a request in another.
@@ -206,7 +207,7 @@ fn come_back_beside<
     b: u8,
     flags: &Flags,
     text: &str,
-) -> Result<Option<u64>, NoMemory>
+) -> Option<u64>
 where
     B::Snap: Send,
     ensures { IsPrefix (front pass.old.seat) (front pass.new.seat) }
@@ -220,8 +221,8 @@ where
     );
     control.rejoin(pass, one);
     control.rejoin(pass, other);
-    asked?;
-    Ok(back)
+    assert!(rt; asked);
+    back
 }
 
 /// Takes a step at the cluster and the shelf, and compares what it gives.
@@ -266,7 +267,7 @@ where
         }
         Step::ReenableBeside(b, flags, text, position) => {
             let back = come_back_beside(rt, alloc, control, pass, *b, flags, text);
-            assert!(rt; back? == Some(*position));
+            assert!(rt; back == Some(*position));
             Ok(())
         }
     }
