@@ -18,10 +18,6 @@ pub returns-in-Reenable : goal.returns-in-Reenable
 returns-in-Reenable g c =
     record { right = still_right g.B.Backend.tells (front c.args.pass.now.seat) (front c.come_back-back.new.pass.seat) c.args.shelf.now.dumps c.come_back-back.ensures c.requires.right }
 
-pub returns-in_err-back-in-ReenableBeside : goal.returns-in_err-back-in-ReenableBeside
-returns-in_err-back-in-ReenableBeside g c =
-    record { right = still_right g.B.Backend.tells (front c.args.pass.now.seat) (front c.come_back_beside-back.new.pass.seat) c.args.shelf.now.dumps c.come_back_beside-back.ensures c.requires.right }
-
-pub returns-in_ok-back-in-ReenableBeside : goal.returns-in_ok-back-in-ReenableBeside
-returns-in_ok-back-in-ReenableBeside g c =
+pub returns-in-ReenableBeside : goal.returns-in-ReenableBeside
+returns-in-ReenableBeside g c =
     record { right = still_right g.B.Backend.tells (front c.args.pass.now.seat) (front c.come_back_beside-back.new.pass.seat) c.args.shelf.now.dumps c.come_back_beside-back.ensures c.requires.right }
