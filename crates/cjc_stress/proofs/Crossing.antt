@@ -8,7 +8,7 @@ use Rattle.cj_outside.specs.contracts.draw.PcgDraw as draw
 use Rattle.cj_pass.specs.declared.naming.Naming as naming
 use Rattle.cj_pass.specs.contracts.pass.Pass as pass
 use Rattle.cj_control.proofs.Crossing.{event_send}
-use Rattle.cjc_stress.specs.contracts.lines.Lines as lines
+use Rattle.cj_stress_text.specs.contracts.lines.Lines as lines
 use Rattle.cjc_stress.specs.contracts.worker.Worker as worker
 
 draw_send : IsSend (draw.the_field).row
